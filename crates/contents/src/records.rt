@@ -81,7 +81,7 @@ impl Aid {
     }
 
     // Whether the length is one that a name may have, and 00 fills the places behind it.
-    pub fn is_sound(&self) -> bool
+    pub(crate) fn is_sound(&self) -> bool
         ensures { λ r. ⌜ r ≡ soundAid (now (self .entry)) ⌝ }
     {
         if self.len < 5 || self.len > 16 {
@@ -116,7 +116,7 @@ pub struct Registry {
 
 impl Registry {
     // The entries in use.
-    pub fn listed(&self) -> &[Entry]
+    pub(crate) fn listed(&self) -> &[Entry]
         ensures list { λ r. ⌜ now r ≡ listed (now (self .entry)) ⌝ }
         ensures len { λ r. ⌜ length (now r) ≡ min (now (self .entry) .count) 12 ⌝ }
     {
@@ -127,7 +127,7 @@ impl Registry {
     }
 
     // A registry without entries.
-    pub fn empty() -> Registry
+    pub(crate) fn empty() -> Registry
         ensures list { λ r. ⌜ listed r ≡ [] ⌝ }
         ensures count { λ r. ⌜ r .count ≡ 0 ⌝ }
     {
@@ -148,7 +148,7 @@ impl Registry {
     }
 
     // Adds an entry behind the others, unless all twelve places are in use.
-    pub fn push(&mut self, entry: Entry) -> bool
+    pub(crate) fn push(&mut self, entry: Entry) -> bool
         ensures taken { λ r. ⌜ r ≡ ltb (length (listed (now (self .entry)))) 12 ⌝ }
         ensures list { λ r. ⌜ listed (now (self .exit)) ≡ cond r (listed (now (self .entry)) ++ entry ∷ []) (listed (now (self .entry))) ⌝ }
         ensures counted { λ _. ⌜ (now (self .entry) .count ≤ 12 → now (self .exit) .count ≤ 12) ⌝ }
@@ -162,7 +162,7 @@ impl Registry {
     }
 
     // The place of the entry of this name.
-    pub fn find(&self, name: &[u8]) -> Option<usize>
+    pub(crate) fn find(&self, name: &[u8]) -> Option<usize>
         ensures first { λ r. ⌜ r ≡ firstOf (bears (now (name .entry))) (listed (now (self .entry))) ⌝ }
         ensures within { λ r. ⌜ found r (λ i. (i < 12) × (i < now (self .entry) .count)) ⌝ }
     {
@@ -170,14 +170,14 @@ impl Registry {
     }
 
     // Whether an entry bears this name.
-    pub fn has_name(&self, name: &[u8]) -> bool
+    pub(crate) fn has_name(&self, name: &[u8]) -> bool
         ensures { λ r. ⌜ r ≡ any (bears (now (name .entry))) (listed (now (self .entry))) ⌝ }
     {
         self.find(name).is_some()
     }
 
     // The entry of this name.
-    pub fn of_name(&self, name: &[u8]) -> Option<Entry>
+    pub(crate) fn of_name(&self, name: &[u8]) -> Option<Entry>
         ensures { λ r. ⌜ r ≡ entryNamed (now (name .entry)) (listed (now (self .entry))) ⌝ }
     {
         let entries = self.listed();
@@ -206,7 +206,7 @@ pub struct KeySets {
 
 impl KeySets {
     // The sets in use.
-    pub fn listed(&self) -> &[KeySet]
+    pub(crate) fn listed(&self) -> &[KeySet]
         ensures list { λ r. ⌜ now r ≡ inUse (now (self .entry)) ⌝ }
         ensures len { λ r. ⌜ length (now r) ≡ min (now (self .entry) .count) 4 ⌝ }
     {
@@ -217,7 +217,7 @@ impl KeySets {
     }
 
     // A table without key sets.
-    pub fn empty() -> KeySets
+    pub(crate) fn empty() -> KeySets
         ensures list { λ r. ⌜ inUse r ≡ [] ⌝ }
         ensures count { λ r. ⌜ r .count ≡ 0 ⌝ }
     {
@@ -234,7 +234,7 @@ impl KeySets {
     }
 
     // Adds a key set behind the others, unless all four places are in use.
-    pub fn push(&mut self, set: KeySet) -> bool
+    pub(crate) fn push(&mut self, set: KeySet) -> bool
         ensures taken { λ r. ⌜ r ≡ ltb (length (inUse (now (self .entry)))) 4 ⌝ }
         ensures list { λ r. ⌜ inUse (now (self .exit)) ≡ cond r (inUse (now (self .entry)) ++ set ∷ []) (inUse (now (self .entry))) ⌝ }
         ensures counted { λ _. ⌜ (now (self .entry) .count ≤ 4 → now (self .exit) .count ≤ 4) ⌝ }
@@ -248,7 +248,7 @@ impl KeySets {
     }
 
     // The place of the set of this version.
-    pub fn find(&self, version: u8) -> Option<usize>
+    pub(crate) fn find(&self, version: u8) -> Option<usize>
         ensures first { λ r. ⌜ r ≡ firstOf (hasVersion version) (inUse (now (self .entry))) ⌝ }
         ensures within { λ r. ⌜ found r (λ i. (i < 4) × (i < now (self .entry) .count)) ⌝ }
     {
@@ -256,14 +256,14 @@ impl KeySets {
     }
 
     // Whether a set has this version.
-    pub fn has_version(&self, version: u8) -> bool
+    pub(crate) fn has_version(&self, version: u8) -> bool
         ensures { λ r. ⌜ r ≡ any (hasVersion version) (inUse (now (self .entry))) ⌝ }
     {
         self.find(version).is_some()
     }
 
     // The set of this version.
-    pub fn of_version(&self, version: u8) -> Option<KeySet>
+    pub(crate) fn of_version(&self, version: u8) -> Option<KeySet>
         ensures { λ r. ⌜ r ≡ setOfVersion version (inUse (now (self .entry))) ⌝ }
     {
         let sets = self.listed();
@@ -273,7 +273,7 @@ impl KeySets {
         }
     }
 
-    pub fn first(&self) -> Option<KeySet>
+    pub(crate) fn first(&self) -> Option<KeySet>
         ensures { λ r. ⌜ r ≡ firstSet (inUse (now (self .entry))) ⌝ }
     {
         first_of(self.listed())
