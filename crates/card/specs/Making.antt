@@ -3,7 +3,7 @@ use Rattle.std.specs.Prelude.{◌≡◌, ℕ, List, Ok, Err, Result}
 use Rattle.answers.specs.declared.Refusal.{Refusal}
 use Rattle.challenge.specs.Draws.{Challenges}
 use Rattle.contents.specs.Held.{Held}
-use Rattle.image.specs.Image.{read_image}
+use Rattle.contents.specs.Image.{read_image}
 use Rattle.card.specs.declared.card.Card.{Card}
 use Rattle.card.specs.declared.card.make.Unmade.{Unmade}
 use Rattle.card.specs.declared.channel.Channel.TheVariants.{Closed}

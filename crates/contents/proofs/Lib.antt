@@ -1,4 +1,13 @@
 pub mod Searches
+pub mod Values
+pub mod Bodies
 pub mod Uniques
+pub mod Steps
+pub mod RoundTrips
+pub mod ReadsBack
+pub mod Takes
+pub mod Readings
+pub mod Areas
+pub mod ImagePuts
 pub mod Altered
 pub mod Grown

@@ -50,7 +50,7 @@ listed r = take r.count r.entries
 abbrev pub in_use : KeySets → List KeySet
 in_use k = take k.count k.sets
 
--- the record at a place that was found
+-- the record at a place that a search found
 abbrev pub set_at : List KeySet → Option ℕ → Option KeySet
 set_at ks at = option_map (λ i. slice_index_or ks i no_key_set) at
 

@@ -1,4 +1,4 @@
--- The one way to find a record: where the first stands that bears a name.
+-- The one search: where the first record stands that bears a name.
 use Rattle.std.specs.Prelude.{ℕ, ◌+◌, Bool, cond, List, [], ◌∷◌, Some, None, Option}
 
 -- the place of the first element that passes, counted from i

@@ -3,13 +3,13 @@ ghost use Rattle.std.specs.Prelude.{◌≡◌, ◌+◌, ◌<◌, ◌≤◌, min,
 ghost use Rattle.std.specs.List.{remove};
 ghost use Rattle.std.specs.Str.{bytes_eq};
 ghost use Rattle.contents.specs.Records.{aid_bytes, card_manager, bears, has_version, listed, in_use, first_set, set_of_version, entry_named, is_application_kind};
-ghost use Rattle.contents.specs.Held.{any, state_fits};
+ghost use Rattle.contents.specs.Held.{filled_name, sound_aid, any, state_fits};
 ghost use Rattle.contents.specs.Changes.{state_set, state_set_named, takes_state, is_name, aid_of, new_application, admits, without_named, is_version, admits_set, replaces_set, replaced_named};
 ghost use Rattle.contents.specs.Search.{first_of};
 ghost use Rattle.contents.specs.declared.life.EntryKind.TheVariants.{Application};
 
-use crate::finding::{Named, find};
 use crate::life::{EntryKind, EntryState};
+use crate::search::{Named, find};
 
 // An application identifier: five to sixteen bytes at the front, and 00 behind them.
 #[derive(Clone, Copy)]
@@ -63,6 +63,27 @@ impl Aid {
         }
         &self.bytes[0..len]
     }
+
+    // The name, and 00 at the places behind it.
+    fn filled(&self) -> [u8; 16]
+        requires { self.now.len ≤ 16 }
+        ensures { result ≡ filled_name self.now }
+    {
+        let mut bytes = self.bytes;
+        let len = self.len as usize;
+        bytes[len..16].fill(0);
+        bytes
+    }
+
+    // Whether the length is one that a name may have, and 00 fills the places behind it.
+    pub(crate) fn is_sound(&self) -> bool
+        ensures { result ≡ sound_aid self.now }
+    {
+        if self.len < 5 || self.len > 16 {
+            return false;
+        }
+        same_bytes(&self.bytes, &self.filled())
+    }
 }
 
 impl<'a> Named<&'a [u8]> for Entry {
@@ -90,7 +111,7 @@ pub struct Registry {
 
 impl Registry {
     // The entries in use.
-    pub fn listed(&self) -> &[Entry]
+    pub(crate) fn listed(&self) -> &[Entry]
         ensures list { result.now ≡ listed self.now }
         ensures len { length result.now ≡ min self.now.count 12 }
     {
@@ -100,8 +121,29 @@ impl Registry {
         &self.entries[0..self.count]
     }
 
+    // A registry without entries.
+    pub(crate) fn empty() -> Registry
+        ensures list { listed result ≡ [] }
+        ensures count { result.count ≡ 0 }
+    {
+        let aid = Aid {
+            bytes: [0; 16],
+            len: 0,
+        };
+        let unused = Entry {
+            kind: EntryKind::LoadFile,
+            aid,
+            state: EntryState::Loaded,
+            privileges: 0,
+        };
+        Registry {
+            entries: [unused; 12],
+            count: 0,
+        }
+    }
+
     // Adds an entry behind the others, unless all twelve places are in use.
-    pub fn push(&mut self, entry: Entry) -> bool
+    pub(crate) fn push(&mut self, entry: Entry) -> bool
         ensures taken { result ≡ nat_lt (length (listed self.old)) 12 }
         ensures list { listed self.new ≡ (if result then listed self.old ++ entry ∷ [] else listed self.old) }
         ensures counted { self.old.count ≤ 12 → self.new.count ≤ 12 }
@@ -123,7 +165,7 @@ impl Registry {
     }
 
     // Whether an entry bears this name.
-    pub fn has_name(&self, name: &[u8]) -> bool
+    pub(crate) fn has_name(&self, name: &[u8]) -> bool
         ensures { result ≡ any (bears name.now) (listed self.now) }
     {
         self.find(name).is_some()
@@ -159,7 +201,7 @@ pub struct KeySets {
 
 impl KeySets {
     // The sets in use.
-    pub fn listed(&self) -> &[KeySet]
+    pub(crate) fn listed(&self) -> &[KeySet]
         ensures list { result.now ≡ in_use self.now }
         ensures len { length result.now ≡ min self.now.count 4 }
     {
@@ -169,8 +211,25 @@ impl KeySets {
         &self.sets[0..self.count]
     }
 
+    // A table without key sets.
+    pub(crate) fn empty() -> KeySets
+        ensures list { in_use result ≡ [] }
+        ensures count { result.count ≡ 0 }
+    {
+        let unused = KeySet {
+            version: 0,
+            enc: [0; 16],
+            mac: [0; 16],
+            kek: [0; 16],
+        };
+        KeySets {
+            sets: [unused; 4],
+            count: 0,
+        }
+    }
+
     // Adds a key set behind the others, unless all four places are in use.
-    pub fn push(&mut self, set: KeySet) -> bool
+    pub(crate) fn push(&mut self, set: KeySet) -> bool
         ensures taken { result ≡ nat_lt (length (in_use self.old)) 4 }
         ensures list { in_use self.new ≡ (if result then in_use self.old ++ set ∷ [] else in_use self.old) }
         ensures counted { self.old.count ≤ 4 → self.new.count ≤ 4 }
@@ -192,7 +251,7 @@ impl KeySets {
     }
 
     // Whether a set has this version.
-    pub fn has_version(&self, version: u8) -> bool
+    pub(crate) fn has_version(&self, version: u8) -> bool
         ensures { result ≡ any (has_version version) (in_use self.now) }
     {
         self.find(version).is_some()

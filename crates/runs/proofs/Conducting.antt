@@ -13,7 +13,7 @@ use Rattle.challenge.specs.Draws.{Challenges}
 use Rattle.cipher.specs.Blocks.{Algorithm}
 use Rattle.contents.specs.declared.records.KeySet.{KeySet}
 use Rattle.contents.specs.Held.{Held}
-use Rattle.image.specs.Image.{read_image}
+use Rattle.contents.specs.Image.{read_image}
 use Rattle.scp01.specs.declared.Level.{Level}
 use Rattle.scp01.specs.Levels.{level_value}
 use Rattle.terminal.specs.declared.Phase.TheVariants as phase

@@ -12,7 +12,7 @@ use Rattle.challenge.specs.Draws.{Challenges}
 use Rattle.cipher.specs.Blocks.{Algorithm}
 use Rattle.contents.specs.declared.records.KeySet.{KeySet}
 use Rattle.contents.specs.Held.{Held}
-use Rattle.image.specs.Image.{read_image}
+use Rattle.contents.specs.Image.{read_image}
 use Rattle.contents.specs.Records.{set_of_version}
 use Rattle.scp01.specs.Levels.{level_value}
 use Rattle.terminal.specs.Sides.{Side, made_of, update_command, authenticate_command}

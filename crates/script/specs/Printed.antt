@@ -4,7 +4,7 @@ use Rattle.answers.specs.declared.Refusal.{Refusal}
 use Rattle.challenge.specs.Draws.{groups}
 use Rattle.cipher.specs.Blocks.{Algorithm}
 use Rattle.contents.specs.Held.{Held}
-use Rattle.image.specs.Image.{read_image}
+use Rattle.contents.specs.Image.{read_image}
 use Rattle.card.specs.declared.channel.Channel.TheVariants.{Closed}
 use Rattle.card.specs.Models.{Model, model}
 use Rattle.script.specs.declared.row.Row.TheVariants.{ImageRefused}

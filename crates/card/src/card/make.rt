@@ -2,7 +2,7 @@
 ghost use Rattle.std.specs.Prelude.{◌≡◌, true, Ok};
 ghost use Rattle.contents.specs.Contents.{held};
 ghost use Rattle.contents.specs.Held.{sound};
-ghost use Rattle.image.specs.Image.{read_image, image_bytes, image_written};
+ghost use Rattle.contents.specs.Image.{read_image, image_bytes, image_written};
 ghost use Rattle.card.specs.Making.{Made};
 
 use crate::card::Card;
@@ -25,7 +25,7 @@ impl<C: Cipher, S: Source> Card<C, S> {
     pub fn make(image: &[u8], source: S) -> Result<Card<C, S>, Unmade<S>>
         ensures { Made S.Source.coming image.now source result }
     {
-        match image::read(image) {
+        match Contents::from_image(image) {
             Ok(contents) => Ok(Card {
                 contents,
                 channel: Channel::Closed,
@@ -49,7 +49,7 @@ impl<C: Cipher, S: Source> Card<C, S> {
         ensures written { (result, area.new) ≡ image_written (held self.now.contents) area.old }
         ensures back { read_image (image_bytes (held self.now.contents)) ≡ Ok (held self.now.contents) }
     {
-        image::write(&self.contents, area)
+        self.contents.write_image(area)
     }
 
     // Ends the card, and gives its source back.

@@ -14,7 +14,7 @@ loop-block-preserved g c =
     let under = g.C.Cipher.deciphering c.args.keys.now in
     let long : length c.xored.result ≡ 8 = search rules in
     let room : c.loop-block.at + 8 ≤ length c.loop-block.area = omega arith in
-    (back_more under _ _ _ _ _ _ _ _ _ c.loop-block.invariant.0 c.loop-block-test.true (c.xored.ensures ∙ ap (xor c.loop-block.before) c.decipher.ensures) c.put-block.ensures long room, omega arith)
+    (back_more under _ _ _ _ _ _ _ _ _ c.loop-block.invariant.0 c.loop-block-test.true (c.xored.ensures ∙ ap (xor c.loop-block.before) c.decipher.ensures) c.put_block.ensures long room, omega arith)
 
 pub returns : goal.returns
 returns g c =

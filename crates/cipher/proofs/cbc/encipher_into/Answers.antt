@@ -13,7 +13,7 @@ loop-block-preserved g c =
     let under = g.C.Cipher.enciphering c.args.keys.now in
     let long : length c.encipher-before.result ≡ 8 = search rules in
     let room : c.loop-block.at + 8 ≤ length c.loop-block.area = omega arith in
-    (out_more under _ _ _ _ _ _ _ _ _ c.loop-block.invariant.0 c.loop-block-test.true (c.encipher-before.ensures ∙ ap under c.xored.ensures) c.put-block.ensures long room, omega arith)
+    (out_more under _ _ _ _ _ _ _ _ _ c.loop-block.invariant.0 c.loop-block-test.true (c.encipher-before.ensures ∙ ap under c.xored.ensures) c.put_block.ensures long room, omega arith)
 
 pub returns : goal.returns
 returns g c =

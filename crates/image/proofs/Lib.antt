@@ -1,9 +1,0 @@
-pub mod Values
-pub mod Bodies
-pub mod Steps
-pub mod RoundTrips
-pub mod ReadsBack
-pub mod Takes
-pub mod Readings
-pub mod Areas
-pub mod ImagePuts

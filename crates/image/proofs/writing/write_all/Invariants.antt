@@ -1,8 +1,0 @@
-use Rattle.std.proofs.Common.{take}
-use Rattle.std.specs.List.{flat_map}
-use Rattle.image.proofs.Areas.{Put}
-use Rattle.image.proofs.writing.write_all.Given as goal
-
-abbrev pub invariant-loop-record : goal.invariant-loop-record
-invariant-loop-record g l =
-    Put l.initial.area l.area l.start l.at (flat_map g.R.Stored.bytes (take l.record-index l.records))
