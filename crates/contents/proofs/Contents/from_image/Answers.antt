@@ -10,5 +10,5 @@ invariant-of-result c =
 
 pub returns : goal.returns
 returns c =
-    let e = sym c.in-ok-state.ensures in
-    record { contents = e; back = (image_read c.args.image.now (drafted c.in-ok-state.field-0) e).0 }
+    let e = sym c.in_ok-state.ensures in
+    record { contents = e; back = (image_read c.args.image.now (drafted c.in_ok-state.field-0) e).0 }

@@ -26,7 +26,7 @@ returns c =
     let p = image_put (held c.args.self.now) c.args.self.now.ok c.requires c.value.ensures c.listed.ensures.list c.listed-2.ensures.list
     (record { area = c.put-at.ensures.area; end = c.put-at.ensures.end })
     (record { area = c.put-at-2.ensures.area; end = c.put-at-2.ensures.end })
-    (record { area = c.write-all-at.ensures.area; end = c.write-all-at.ensures.end })
+    (record { area = c.write_all-at.ensures.area; end = c.write_all-at.ensures.end })
     (record { area = c.write-all-at-2.ensures.area; end = c.write-all-at-2.ensures.end })
     (record { area = c.put.ensures.area; end = c.put.ensures.end }) in
     record { area = p.0; end = p.1 }

@@ -6,4 +6,4 @@ use Rattle.present.proofs.back.unboxed.Goals as goal
 
 pub returns : goal.returns
 unfolding INVSBOX inv_s_box_layer replaced pairs
-returns c = c.bytes-through.ensures ∙ by_pairs INVSBOX 8 c.args.x
+returns c = c.bytes_through.ensures ∙ by_pairs INVSBOX 8 c.args.x

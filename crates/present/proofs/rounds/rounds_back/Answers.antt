@@ -24,7 +24,7 @@ loop-i-preserved c =
       c.unlayered-y.ensures
           ∙ ap (λ (n : ℕ). inv_s_box_layer (inv_p_layer (bit_xor n (get_or ks j 0)))) c.loop-i.invariant.0
           ∙ sym (ap (λ (l : List ℕ). run_back l c.args.x) d),
-      c.unlayered-y.type-inv,
+      c.unlayered-y.type_inv,
     )
 
 pub returns : goal.returns

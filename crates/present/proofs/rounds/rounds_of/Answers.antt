@@ -15,7 +15,7 @@ loop-k-preserved c =
       ap₂ (λ (n z : ℕ). run (drop n ks) (bit_xor z k)) (add-one i) c.layered.ensures
           ∙ sym (ap (λ (l : List ℕ). run l c.loop-k.y) (drop-cons ks i 0 h))
           ∙ c.loop-k.invariant.0,
-      xor_lt 64 c.layered.result k c.layered.type-inv hk,
+      xor_lt 64 c.layered.result k c.layered.type_inv hk,
     )
 
 pub returns : goal.returns

@@ -10,7 +10,7 @@ loop-i-preserved c =
     let hi : c.loop-i.i < 31 = omega arith in (
       key_more c.loop-i.out c.loop-i.i c.loop-i.k (c.updated-k.result / 2 ^ 64) c.updated-k.result ho hi c.updated-k.ensures refl ∙ c.loop-i.invariant.0,
       length-set c.loop-i.out c.loop-i.i (c.updated-k.result / 2 ^ 64) ∙ c.loop-i.invariant.1,
-      c.updated-k.type-inv,
+      c.updated-k.type_inv,
     )
 
 pub returns : goal.returns

@@ -6,4 +6,4 @@ use Rattle.present.proofs.schedule.updated.Goals as goal
 
 pub returns : goal.returns
 unfolding update counted rotated
-returns c = ap₂ bit_xor (c.top-boxed.ensures ∙ ap boxed c.rotate-left.ensures) (shl_whole c.args.i 5 62 128 c.requires (omega arith))
+returns c = ap₂ bit_xor (c.top_boxed.ensures ∙ ap boxed c.rotate_left.ensures) (shl_whole c.args.i 5 62 128 c.requires (omega arith))

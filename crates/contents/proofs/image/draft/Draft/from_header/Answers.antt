@@ -7,4 +7,4 @@ returns-in-1 c =
     let some : 1 ≤ length c.args.image.now = omega (arith, ltb-false) in
     let one : get_or c.args.image.now 0 0 ≡ 1 = omega (arith, eqb-true) in
     let e = header_front c.args.image.now some one in
-    simp e c.from-header-body.ensures
+    simp e c.from_header_body.ensures

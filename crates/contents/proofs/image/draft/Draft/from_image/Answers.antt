@@ -10,5 +10,5 @@ returns-in-err-from-header c =
 
 pub returns : goal.returns
 returns c =
-    let e = header_stands c.args.image.now (drafted c.in-ok-from-header.field-0) c.in-ok-from-header.ensures in
+    let e = header_stands c.args.image.now (drafted c.in_ok-from_header.field-0) c.in_ok-from_header.ensures in
     simp e c.with-records.ensures

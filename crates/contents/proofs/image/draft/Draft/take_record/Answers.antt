@@ -7,4 +7,4 @@ pub returns-in-len1-up : goal.returns-in-len1-up
 returns-in-len1-up c =
     let some : 1 ≤ length c.args.rest.now = omega (arith, ltb-false) in
     let e = record_front (drafted c.args.self.now) c.args.rest.now some in
-    record { rest = simp e c.take-body.ensures.rest; draft = simp e c.take-body.ensures.draft }
+    record { rest = simp e c.take_body.ensures.rest; draft = simp e c.take_body.ensures.draft }

@@ -14,12 +14,12 @@ returns-in-err-behind c =
 
 pub loop-behind-smaller : goal.loop-behind-smaller
 loop-behind-smaller c =
-    shorter (drafted c.loop-behind.self) c.loop-behind.rest.now c.in-Some.behind.now (some_behind c.in-Some.is c.in-ok-behind.ensures.rest)
+    shorter (drafted c.loop-behind.self) c.loop-behind.rest.now c.in-Some.behind.now (some_behind c.in-Some.is c.in_ok-behind.ensures.rest)
 
 pub loop-behind-preserved : goal.loop-behind-preserved
 loop-behind-preserved c =
-    reading_goes c.loop-behind.invariant (some_behind c.in-Some.is c.in-ok-behind.ensures.rest) c.in-ok-behind.ensures.draft
+    reading_goes c.loop-behind.invariant (some_behind c.in-Some.is c.in_ok-behind.ensures.rest) c.in_ok-behind.ensures.draft
 
 pub returns : goal.returns
 returns c =
-    sym (reading_ends c.loop-behind.invariant (none_behind c.in-default.is c.in-ok-behind.ensures.rest) c.in-ok-behind.ensures.draft)
+    sym (reading_ends c.loop-behind.invariant (none_behind c.in_default.is c.in-ok-behind.ensures.rest) c.in-ok-behind.ensures.draft)
