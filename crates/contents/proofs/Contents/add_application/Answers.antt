@@ -4,11 +4,11 @@ use Rattle.contents.proofs.Altered.{sound_parts, entries_replaced}
 use Rattle.contents.proofs.Grown.{application_sound_after}
 use Rattle.contents.proofs.Contents.add_application.Goals as goal
 
-pub invariant-of-self : goal.invariant-of-self
-invariant-of-self c =
+pub invariant_of-self : goal.invariant_of-self
+invariant_of-self c =
     let contents = c.args.self.now in
     let h = held contents in
-    let after = listed c.add-application.new.self in
-    let change = c.add-application.ensures in
-    let sure = application_sound_after h.entries after c.args.name.now c.args.state c.args.privileges c.add-application.result (sound_parts h contents.ok).2 change.taken change.list in
-    ((contents.counted.0, change.counted contents.counted.1), (entries_replaced h after contents.ok sure, tt))
+    let after = listed c.add_application.new.self in
+    let change = c.add_application.ensures in
+    let sure = application_sound_after h.entries after c.args.name.now c.args.state c.args.privileges c.add_application.result (sound_parts h contents.ok).2 change.taken change.list in
+    record { counted = (contents.counted.0, change.counted contents.counted.1); ok = entries_replaced h after contents.ok sure }

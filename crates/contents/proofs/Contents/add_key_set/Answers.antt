@@ -5,12 +5,12 @@ use Rattle.contents.proofs.Altered.{sound_parts, sets_replaced}
 use Rattle.contents.proofs.Grown.{Keys, set_sound_after}
 use Rattle.contents.proofs.Contents.add_key_set.Goals as goal
 
-pub invariant-of-self : goal.invariant-of-self
-invariant-of-self c =
+pub invariant_of-self : goal.invariant_of-self
+invariant_of-self c =
     let contents = c.args.self.now in
     let h = held contents in
     let after = in_use c.add.new.self in
     let change = c.add.ensures in
     let keys : Keys c.args.set = search rules in
     let sure = set_sound_after h.sets after c.args.set c.add.result keys (sound_parts h contents.ok).1 change.taken change.list in
-    ((change.counted contents.counted.0, contents.counted.1), (sets_replaced h after contents.ok sure, tt))
+    record { counted = (change.counted contents.counted.0, contents.counted.1); ok = sets_replaced h after contents.ok sure }

@@ -4,11 +4,11 @@ use Rattle.contents.proofs.Altered.{sound_parts, entries_replaced}
 use Rattle.contents.proofs.Grown.{without_sound}
 use Rattle.contents.proofs.Contents.remove_entry.Goals as goal
 
-pub invariant-of-self : goal.invariant-of-self
-invariant-of-self c =
+pub invariant_of-self : goal.invariant_of-self
+invariant_of-self c =
     let contents = c.args.self.now in
     let h = held contents in
-    let after = listed c.remove-named.new.self in
-    let change = c.remove-named.ensures in
+    let after = listed c.remove_named.new.self in
+    let change = c.remove_named.ensures in
     let sure = without_sound h.entries after c.args.name.now (sound_parts h contents.ok).2 change.list in
-    ((contents.counted.0, change.counted), (entries_replaced h after contents.ok sure, tt))
+    record { counted = (contents.counted.0, change.counted); ok = entries_replaced h after contents.ok sure }

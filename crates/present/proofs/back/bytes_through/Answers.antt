@@ -8,11 +8,11 @@ pub loop-i-init : goal.loop-i-init
 unfolding replaced
 loop-i-init c = (refl, lit< tt)
 
-pub overflow-mul-out : goal.overflow-mul-out
-overflow-mul-out c = let h = room c.loop-i.out c.loop-i.i c.loop-i-test.true c.loop-i.invariant.1 in omega arith
+pub overflow_mul-out : goal.overflow_mul-out
+overflow_mul-out c = let h = room c.loop-i.out c.loop-i.i c.loop-i-test.true c.loop-i.invariant.1 in omega arith
 
-pub overflow-add-out : goal.overflow-add-out
-overflow-add-out c =
+pub overflow_add-out : goal.overflow_add-out
+overflow_add-out c =
     let h = room c.loop-i.out c.loop-i.i c.loop-i-test.true c.loop-i.invariant.1 in
     let b : get_or c.args.table.now (bit_and (c.args.x / 2 ^ (56 - 8 * c.loop-i.i)) 255) 0 < 256 = search rules in
     omega arith

@@ -6,17 +6,17 @@ pub returns-then-p1-ne0 : goal.returns-then-p1-ne0
 unfolding deleted
 returns-then-p1-ne0 c = search rules
 
-pub returns-then-is-locked : goal.returns-then-is-locked
+pub returns-then-is_locked : goal.returns-then-is_locked
 unfolding deleted
-returns-then-is-locked c = search rules
+returns-then-is_locked c = search rules
 
-pub returns-in-default : goal.returns-in-default
+pub returns-in_default : goal.returns-in_default
 unfolding deleted
-returns-in-default c = search rules
+returns-in_default c = search rules
 
-pub returns-then-not-remove-entry : goal.returns-then-not-remove-entry
+pub returns-then-not-remove_entry : goal.returns-then-not-remove_entry
 unfolding deleted
-returns-then-not-remove-entry c = search rules
+returns-then-not-remove_entry c = search rules
 
 pub returns : goal.returns
 unfolding deleted

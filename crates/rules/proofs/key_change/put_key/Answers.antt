@@ -6,13 +6,13 @@ pub returns-then-p1-gt127 : goal.returns-then-p1-gt127
 unfolding key_put
 returns-then-p1-gt127 g c = search rules
 
-pub returns-then-is-locked : goal.returns-then-is-locked
+pub returns-then-is_locked : goal.returns-then-is_locked
 unfolding key_put
-returns-then-is-locked g c = search rules
+returns-then-is_locked g c = search rules
 
-pub returns-in-default : goal.returns-in-default
+pub returns-in_default : goal.returns-in_default
 unfolding key_put
-returns-in-default g c = search rules
+returns-in_default g c = search rules
 
 pub returns : goal.returns
 unfolding key_put

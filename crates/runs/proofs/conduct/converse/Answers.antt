@@ -13,31 +13,31 @@ returns g c =
     let cipher = algorithm g.C.Cipher.enc g.C.Cipher.dec g.C.Cipher.identifier in
     let view_of = view {C = g.row.C.Denot} g.S.Source.coming in
     let side-of = side {C = g.row.C.Denot} in
-    let o = opening_in c.in-ok-opening.opening in
-    let sendings = map served_in (vec_items c.in-ok-served.served) in
+    let o = opening_in c.in_ok-opening.opening in
+    let sendings = map served_in (vec_items c.in_ok-served.served) in
     let before = view_of c.args.card.now in
-    let mid = view_of c.open-channel.new.card in
+    let mid = view_of c.open_channel.new.card in
     let last = view_of c.serve.new.card in
-    let yes' : c.is-open.result ≡ true = search rules in
+    let yes' : c.is_open.result ≡ true = search rules in
     record {
-      conversed = conversed cipher before mid last (side-of c.args.terminal.now) (side-of c.open-channel.new.terminal) (side-of c.serve.new.terminal) c.args.talk.now o sendings c.in-ok-opening.ensures.opened c.in-ok-served.ensures.answers;
-      channelled = sym yes' ∙ c.is-open.ensures;
-      onward = onward_then cipher before mid last (opening_events o) (map sending_event sendings) c.in-ok-opening.ensures.onward c.in-ok-served.ensures.onward;
-      whole = c.in-ok-served.ensures.whole ∙ c.in-ok-opening.ensures.whole;
+      conversed = conversed cipher before mid last (side-of c.args.terminal.now) (side-of c.open_channel.new.terminal) (side-of c.serve.new.terminal) c.args.talk.now o sendings c.in_ok-opening.ensures.opened c.in_ok-served.ensures.answers;
+      channelled = sym yes' ∙ c.is_open.ensures;
+      onward = onward_then cipher before mid last (opening_events o) (map sending_event sendings) c.in_ok-opening.ensures.onward c.in_ok-served.ensures.onward;
+      whole = c.in_ok-served.ensures.whole ∙ c.in_ok-opening.ensures.whole;
     }
 
-pub returns-then-not-is-open : goal.returns-then-not-is-open
-returns-then-not-is-open g c =
+pub returns-then-not-is_open : goal.returns-then-not-is_open
+returns-then-not-is_open g c =
     let cipher = algorithm g.C.Cipher.enc g.C.Cipher.dec g.C.Cipher.identifier in
     let view_of = view {C = g.row.C.Denot} g.S.Source.coming in
     let side-of = side {C = g.row.C.Denot} in
-    let o = opening_in c.in-ok-opening.opening in
+    let o = opening_in c.in_ok-opening.opening in
     let before = view_of c.args.card.now in
-    let mid = view_of c.open-channel.new.card in
-    let no' : c.is-open.result ≡ false = search rules in
+    let mid = view_of c.open_channel.new.card in
+    let no' : c.is_open.result ≡ false = search rules in
     record {
-      conversed = not_conversed cipher before mid (side-of c.args.terminal.now) (side-of c.open-channel.new.terminal) c.args.talk.now o c.is-open.result c.is-open.ensures no' c.in-ok-opening.ensures.opened;
-      channelled = sym no' ∙ c.is-open.ensures;
-      onward = onward_some cipher before mid (opening_events o) c.in-ok-opening.ensures.onward;
-      whole = c.in-ok-opening.ensures.whole;
+      conversed = not_conversed cipher before mid (side-of c.args.terminal.now) (side-of c.open_channel.new.terminal) c.args.talk.now o c.is_open.result c.is_open.ensures no' c.in_ok-opening.ensures.opened;
+      channelled = sym no' ∙ c.is_open.ensures;
+      onward = onward_some cipher before mid (opening_events o) c.in_ok-opening.ensures.onward;
+      whole = c.in_ok-opening.ensures.whole;
     }

@@ -7,8 +7,8 @@ use Rattle.runs.specs.Turns.{exchanged}
 use Rattle.runs.proofs.Conversing.{authenticate_within, carried_in, carried_out, shown_at}
 use Rattle.runs.proofs.converse.authenticate.Goals as goal
 
-pub slice-bounds-hand-in-end : goal.slice-bounds-hand-in-end
-slice-bounds-hand-in-end g c =
+pub slice_bounds-hand_in-end : goal.slice_bounds-hand_in-end
+slice_bounds-hand_in-end g c =
     let cipher = algorithm g.C.Cipher.enc g.C.Cipher.dec g.C.Cipher.identifier in
     let side-of = side {C = g.row.C.Denot} in
     let h = authenticate_within cipher (side-of c.args.terminal.now) (side-of c.authenticate.new.self) c.args.answer.now blank c.authenticate.new.area c.value.result c.in-Ok.n c.in-Ok.ensures in
@@ -23,7 +23,7 @@ returns g c =
     let u = side-of c.authenticate.new.self in
     let told : ◌≡◌ {A = Outcome} (Ok c.in-Ok.n, u, c.authenticate.new.area) (showing cipher t c.args.answer.now c.args.level) = shown_at cipher t c.args.answer.now c.value.result c.args.level (Ok c.in-Ok.n, u, c.authenticate.new.area) c.value.ensures c.in-Ok.ensures in
     record {
-      carried = carried_in cipher (view_of c.args.card.now) (view_of c.hand-in.new.card) (showing cipher t c.args.answer.now c.args.level) u c.authenticate.new.area c.in-Ok.n (exchanged c.in-ok-exchange.exchange) told c.in-ok-exchange.ensures.handed;
+      carried = carried_in cipher (view_of c.args.card.now) (view_of c.hand_in.new.card) (showing cipher t c.args.answer.now c.args.level) u c.authenticate.new.area c.in-Ok.n (exchanged c.in_ok-exchange.exchange) told c.in_ok-exchange.ensures.handed;
       terminal = ap (λ (o : Outcome). o.1) told;
-      whole = c.in-ok-exchange.ensures.whole;
+      whole = c.in_ok-exchange.ensures.whole;
     }

@@ -14,6 +14,6 @@ returns g c =
     let view_of = view {C = g.row.C.Denot} g.S.Source.coming in
     let side-of = side {C = g.row.C.Denot} in
     record {
-      began = IfOk-weaker c.hand-in.result _ _ (λ x. began cipher (view_of c.args.card.now) (view_of c.hand-in.new.card) (side-of c.args.terminal.now) (side-of c.begin.new.self) c.args.host.now blank c.begin.new.area c.in-Ok.n (exchanged x) c.told-host (lit≤ tt) c.in-Ok.ensures) c.hand-in.ensures.handed;
-      whole = c.hand-in.ensures.whole;
+      began = IfOk-weaker c.hand_in.result _ _ (λ x. began cipher (view_of c.args.card.now) (view_of c.hand_in.new.card) (side-of c.args.terminal.now) (side-of c.begin.new.self) c.args.host.now blank c.begin.new.area c.in-Ok.n (exchanged x) c.told-host (lit≤ tt) c.in-Ok.ensures) c.hand_in.ensures.handed;
+      whole = c.hand_in.ensures.whole;
     }

@@ -9,4 +9,4 @@ returns c =
       | then-answer-lt2 w ↦ let t = w.if-answer-lt2 in let e = w.at-is in omega (arith, e, t.true)
       | else-answer-lt2 w ↦ let t = w.if-answer-lt2 in let e = w.at-is in omega (arith, e)
     ] in
-    tail_9000 c.args.answer.now c.if-answer-lt2.at c.same-bytes.result at c.same-bytes.ensures
+    tail_9000 c.args.answer.now c.if-answer-lt2.at c.same_bytes.result at c.same_bytes.ensures

@@ -15,10 +15,10 @@ loop-turn-init g c =
 
 pub loop-turn-preserved : goal.loop-turn-preserved
 loop-turn-preserved g c =
-    let pushed = chosen _ _ _ _ c.push.ensures.items (ap is_ok c.in-ok-push.was) in
+    let pushed = chosen _ _ _ _ c.push.ensures.items (ap is_ok c.in_ok-push.was) in
     let inv = c.loop-turn.invariant in
-    let more = ap (map event_in) pushed ∙ map_push event_in (vec_items c.loop-turn.outcomes) c.in-ok-outcome.outcome in
-    (omega arith, played_more _ _ _ _ _ _ _ c.args.turns.now c.loop-turn.turn-index turn.Reset inv.1 c.in-ok-outcome.ensures.turned c.loop-turn-test.true more, c.in-ok-outcome.ensures.whole ∙ inv.2)
+    let more = ap (map event_in) pushed ∙ map_push event_in (vec_items c.loop-turn.outcomes) c.in_ok-outcome.outcome in
+    (omega arith, played_more _ _ _ _ _ _ _ c.args.turns.now c.loop-turn.turn-index turn.Reset inv.1 c.in_ok-outcome.ensures.turned c.loop-turn-test.true more, c.in_ok-outcome.ensures.whole ∙ inv.2)
 
 pub returns : goal.returns
 returns g c =

@@ -8,8 +8,8 @@ use Rattle.runs.proofs.Conversing.{wrap_within}
 use Rattle.runs.proofs.Sending.{sent_from}
 use Rattle.runs.proofs.serve.send.Goals as goal
 
-pub slice-bounds-hand-in-end : goal.slice-bounds-hand-in-end
-slice-bounds-hand-in-end g c =
+pub slice_bounds-hand_in-end : goal.slice_bounds-hand_in-end
+slice_bounds-hand_in-end g c =
     let cipher = algorithm g.C.Cipher.enc g.C.Cipher.dec g.C.Cipher.identifier in
     let side-of = side {C = g.row.C.Denot} in
     let h = wrap_within cipher (side-of c.args.terminal.now) (side-of c.wrap.new.self) c.args.command.now blank c.wrap.new.area c.in-Ok.n c.in-Ok.ensures in
@@ -21,7 +21,7 @@ returns g c =
     let view_of = view {C = g.row.C.Denot} g.S.Source.coming in
     let side-of = side {C = g.row.C.Denot} in
     record {
-      sent = sent_from cipher (view_of c.args.card.now) (view_of c.hand-in.new.card) (side-of c.args.terminal.now) (side-of c.wrap.new.self) c.args.command.now (vec_items c.in-ok-bare.bare) c.wrap.new.area c.in-Ok.n (exchanged c.in-ok-sent.sent) c.in-Ok.ensures c.in-ok-sent.ensures.handed c.in-ok-bare.ensures.items;
-      bytes = c.of-bytes.ensures;
-      whole = c.in-ok-sent.ensures.whole;
+      sent = sent_from cipher (view_of c.args.card.now) (view_of c.hand_in.new.card) (side-of c.args.terminal.now) (side-of c.wrap.new.self) c.args.command.now (vec_items c.in_ok-bare.bare) c.wrap.new.area c.in-Ok.n (exchanged c.in_ok-sent.sent) c.in-Ok.ensures c.in_ok-sent.ensures.handed c.in_ok-bare.ensures.items;
+      bytes = c.of_bytes.ensures;
+      whole = c.in_ok-sent.ensures.whole;
     }

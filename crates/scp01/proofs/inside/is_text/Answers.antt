@@ -9,7 +9,7 @@ returns-then-end-text c =
     let text = c.args.text.now in
     let closed = text_closed text c.requires (omega arith) in
     let rest = take_rest text (get_or text 0 0 + 1) in
-    record { text = c.same-bytes.ensures ∙ cc; long = search rules }
+    record { text = c.same_bytes.ensures ∙ cc; long = search rules }
 
 pub returns-else-end-text : goal.returns-else-end-text
 returns-else-end-text c =

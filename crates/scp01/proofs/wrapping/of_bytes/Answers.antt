@@ -9,5 +9,5 @@ returns c = record {
         mac = record { long = search rules; small = λ i. search rules };
         chain = record { long = search rules; small = λ i. search rules };
       };
-  field = record { long = refl; small = λ i. search (rules, c.type-inv.field i) };
+  field = record { long = refl; small = λ i. search (rules, c.type_inv.field i) };
 }

@@ -2,9 +2,9 @@ use Rattle.std.proofs.Common.{sym, arith}
 use Rattle.scp01.proofs.Sending.{put_no_field, put_field}
 use Rattle.scp01.proofs.wrapping.put_field.Goals as goal
 
-pub returns-then-is-empty : goal.returns-then-is-empty
-returns-then-is-empty c = put_no_field _ _ _ (sym c.if-is-empty.ensures)
+pub returns-then-is_empty : goal.returns-then-is_empty
+returns-then-is_empty c = put_no_field _ _ _ (sym c.if-is_empty.ensures)
 
 pub returns : goal.returns
 returns c =
-    put_field c.args.area.now _ _ c.args.field.now c.args.at _ _ (sym c.if-is-empty.ensures) c.put-behind.ensures c.put.ensures (omega arith)
+    put_field c.args.area.now _ _ c.args.field.now c.args.at _ _ (sym c.if-is_empty.ensures) c.put-behind.ensures c.put.ensures (omega arith)

@@ -9,8 +9,8 @@ pub returns : goal.returns
 returns g c =
     let cipher = algorithm g.C.Cipher.enc g.C.Cipher.dec g.C.Cipher.identifier in
     let command = meaning c.args.command in
-    let shut = front_of _ _ _ _ c.write-enciphered-end.ensures.area in
+    let shut = front_of _ _ _ _ c.write_enciphered-end.ensures.area in
     record {
       area = c.seal.ensures ∙ ap (λ body. sealed_into c.args.area.now command body (code_of cipher c.args.session.now command)) shut;
-      shut = c.write-enciphered-end.ensures.area.area;
+      shut = c.write_enciphered-end.ensures.area.area;
     }

@@ -9,6 +9,6 @@ pub returns : goal.returns
 returns g c =
     let cipher = algorithm g.C.Cipher.enc g.C.Cipher.dec g.C.Cipher.identifier in
     let laws : Undoes g.C.Cipher.enc g.C.Cipher.dec = record { enciphered = g.met.C.Cipher.enciphered; undone = g.met.C.Cipher.undone } in
-    let bytes = c.of-bytes.ensures in
+    let bytes = c.of_bytes.ensures in
     let b : Bytewise (meaning c.args.command) = record { instruction = search rules; p1 = search rules; p2 = search rules; field = bytes.field } in
-    record { wrapped = c.wrap-into.ensures; unwraps = unwraps_in cipher laws _ _ _ _ _ bytes.session b c.wrap-into.ensures }
+    record { wrapped = c.wrap_into.ensures; unwraps = unwraps_in cipher laws _ _ _ _ _ bytes.session b c.wrap_into.ensures }

@@ -3,14 +3,14 @@ use Rattle.scp01.specs.Wrapping.{field_bytes, le_bytes}
 use Rattle.scp01.proofs.Sending.{put_three, length_field, length_le}
 use Rattle.scp01.proofs.wrapping.write_command.Goals as goal
 
-pub put-field-end-requires : goal.put-field-end-requires
-put-field-end-requires c = (omega arith, omega arith)
+pub put_field-end-requires : goal.put_field-end-requires
+put_field-end-requires c = (omega arith, omega arith)
 
-pub put-le-requires : goal.put-le-requires
-put-le-requires c = omega (arith, length_field c.args.command.field.now)
+pub put_le-requires : goal.put_le-requires
+put_le-requires c = omega (arith, length_field c.args.command.field.now)
 
 pub returns : goal.returns
 returns c =
     let field = length_field c.args.command.field.now in
     let le = length_le c.args.command.le in
-    put_three c.args.area.now _ _ _ _ (field_bytes c.args.command.field.now) (le_bytes c.args.command.le) _ _ _ c.put-start.ensures c.put-field-end.ensures c.put-le.ensures (omega arith)
+    put_three c.args.area.now _ _ _ _ (field_bytes c.args.command.field.now) (le_bytes c.args.command.le) _ _ _ c.put-start.ensures c.put_field-end.ensures c.put_le.ensures (omega arith)

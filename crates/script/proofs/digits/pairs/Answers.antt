@@ -5,16 +5,16 @@ use Rattle.script.proofs.digits.pairs.Goals as goal
 pub loop-left-init : goal.loop-left-init
 loop-left-init c = search (rules, behind_none)
 
-pub returns-in-default-byte : goal.returns-in-default-byte
-returns-in-default-byte c = search (rules, other)
+pub returns-in_default-byte : goal.returns-in_default-byte
+returns-in_default-byte c = search (rules, other)
 
 pub loop-left-preserved : goal.loop-left-preserved
 loop-left-preserved c =
     let h : 2 ≤ length c.loop-left.left.now = search rules in
-    more _ _ _ _ _ h c.in-Some.ensures c.in-ok-push.ensures.items refl ∙ c.loop-left.invariant
+    more _ _ _ _ _ h c.in-Some.ensures c.in_ok-push.ensures.items refl ∙ c.loop-left.invariant
 
-pub returns-then-is-empty : goal.returns-then-is-empty
-returns-then-is-empty c = search (rules, done)
+pub returns-then-is_empty : goal.returns-then-is_empty
+returns-then-is_empty c = search (rules, done)
 
-pub returns-else-is-empty : goal.returns-else-is-empty
-returns-else-is-empty c = search (rules, odd)
+pub returns-else-is_empty : goal.returns-else-is_empty
+returns-else-is_empty c = search (rules, odd)

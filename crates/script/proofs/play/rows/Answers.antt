@@ -9,11 +9,11 @@ use Rattle.script.proofs.play.rows.Goals.{else-loop-number-test, then-loop-numbe
 pub loop-number-preserved : goal.loop-number-preserved
 loop-number-preserved g c =
     rows_more (algorithm g.C.Cipher.enc g.C.Cipher.dec g.C.Cipher.identifier)
-    (view g.S.Source.coming c.loop-number.card) (view g.S.Source.coming c.take-turn.new.card) c.loop-number.number
-    (lines_of c.loop-number.lines.left.now) (lines_of c.take-line.new.self.left.now) c.in-Some.line.now c.in-ok-row.row
-    (vec_items c.loop-number.printed) (vec_items c.extend-from-slice.new.self)
-    (omega arith) c.in-Some.ensures c.in-ok-row.ensures
-    (c.in-ok-extend-from-slice.ensures.items ∙ ap (λ bs. vec_items c.loop-number.printed ++ bs) (c.as-bytes.ensures.value ∙ c.in-ok-text.ensures))
+    (view g.S.Source.coming c.loop-number.card) (view g.S.Source.coming c.take_turn.new.card) c.loop-number.number
+    (lines_of c.loop-number.lines.left.now) (lines_of c.take_line.new.self.left.now) c.in-Some.line.now c.in_ok-row.row
+    (vec_items c.loop-number.printed) (vec_items c.extend_from_slice.new.self)
+    (omega arith) c.in-Some.ensures c.in_ok-row.ensures
+    (c.in_ok-extend_from_slice.ensures.items ∙ ap (λ bs. vec_items c.loop-number.printed ++ bs) (c.as_bytes.ensures.value ∙ c.in_ok-text.ensures))
     ∙ c.loop-number.invariant
 
 pub returns : goal.returns
@@ -24,5 +24,5 @@ returns g c =
     let printed = vec_items c.loop-number.printed in
     elim c.loop-number-test.branch [
       | else-loop-number-test w ↦ sym (rows_all cipher m c.loop-number.number lines printed w.loop-number-test.false) ∙ c.loop-number.invariant
-      | then-loop-number-test+in-default w ↦ sym (rows_none cipher m c.loop-number.number lines printed w.in-default.ensures.0) ∙ c.loop-number.invariant
+      | then-loop-number-test+in-default w ↦ sym (rows_none cipher m c.loop-number.number lines printed w.in_default.ensures.0) ∙ c.loop-number.invariant
     ]

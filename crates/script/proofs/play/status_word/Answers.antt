@@ -14,14 +14,14 @@ said g c =
     (view g.S.Source.coming c.process.new.self) c.args.command.now (replicate 258 0) (replicate 256 0)
     c.process.new.answer c.process.new.work c.in-Ok.len c.in-Ok.ensures.processed
 
-pub overflow-sub-result : goal.overflow-sub-result
-overflow-sub-result g c = let h = said g c in omega arith
+pub overflow_sub-result : goal.overflow_sub-result
+overflow_sub-result g c = let h = said g c in omega arith
 
 pub bounds-answer-len : goal.bounds-answer-len
 bounds-answer-len g c = let h = said g c in omega arith
 
-pub overflow-sub-result-in-Ok : goal.overflow-sub-result-in-Ok
-overflow-sub-result-in-Ok g c = let h = said g c in omega arith
+pub overflow_sub-result-in-Ok : goal.overflow_sub-result-in-Ok
+overflow_sub-result-in-Ok g c = let h = said g c in omega arith
 
 pub bounds-answer-len-in-Ok : goal.bounds-answer-len-in-Ok
 bounds-answer-len-in-Ok g c = let h = said g c in omega arith

@@ -17,7 +17,7 @@ loop-key-preserved c =
           ∙ sym (ap (λ (t : List ℕ). rounds (map held t) l r) (drop-cons ks c.loop-key.key-index 0 h))
           ∙ c.loop-key.invariant.0,
       c.loop-key.invariant.2,
-      xor_lt 32 l c.mixed.result c.loop-key.invariant.1 c.mixed.type-inv,
+      xor_lt 32 l c.mixed.result c.loop-key.invariant.1 c.mixed.type_inv,
     )
 
 pub returns : goal.returns

@@ -5,6 +5,6 @@ use Rattle.tripledes.proofs.schedule.expanded.Goals as goal
 
 pub returns : goal.returns
 returns c = record {
-  forward = c.round-keys-forward.ensures;
-  backward = ap (map held) c.backwards.ensures ∙ map_reverse held c.round-keys-forward.result ∙ ap (λ (l : List ℕ). reverse l) c.round-keys-forward.ensures;
+  forward = c.round_keys-forward.ensures;
+  backward = ap (map held) c.backwards.ensures ∙ map_reverse held c.round_keys-forward.result ∙ ap (λ (l : List ℕ). reverse l) c.round_keys-forward.ensures;
 }

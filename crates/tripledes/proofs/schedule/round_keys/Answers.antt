@@ -18,8 +18,8 @@ halves key cd e = let b = permute_lt 64 PC1 key in let l = and_le_r cd 0xfffffff
 pub loop-i-init : goal.loop-i-init
 unfolding round_keys
 loop-i-init c =
-    let cd : ℕ = c.choice-one-cd.result in
-    let e : c.choice-one-cd.result ≡ permute 64 PC1 c.args.key = c.choice-one-cd.ensures in
+    let cd : ℕ = c.choice_one-cd.result in
+    let e : c.choice_one-cd.result ≡ permute 64 PC1 c.args.key = c.choice_one-cd.ensures in
     let h = halves c.args.key cd e in (
       ap₂ (schedule SHIFTS) (rotated_zero (cd / 2 ^ 28) h.0 ∙ ap (λ (n : ℕ). n / 2 ^ 28) e)
           (rotated_zero (bit_and cd 0xfffffff) h.1 ∙ and_mask cd 28 ∙ ap (λ (n : ℕ). n % 2 ^ 28) e),
@@ -30,41 +30,41 @@ pub turned-left-requires : goal.turned-left-requires
 unfolding TOTALS
 turned-left-requires c =
     let h : c.loop-i.i < 16 = omega arith in
-    ((halves c.args.key c.choice-one-cd.result c.choice-one-cd.ensures).0, within_at TOTALS tt c.loop-i.i h)
+    ((halves c.args.key c.choice_one-cd.result c.choice_one-cd.ensures).0, within_at TOTALS tt c.loop-i.i h)
 
 pub turned-right-requires : goal.turned-right-requires
 unfolding TOTALS
 turned-right-requires c =
     let h : c.loop-i.i < 16 = omega arith in
-    ((halves c.args.key c.choice-one-cd.result c.choice-one-cd.ensures).1, within_at TOTALS tt c.loop-i.i h)
+    ((halves c.args.key c.choice_one-cd.result c.choice_one-cd.ensures).1, within_at TOTALS tt c.loop-i.i h)
 
 pub loop-i-preserved : goal.loop-i-preserved
 unfolding SHIFTS TOTALS
 loop-i-preserved c =
     let i : ℕ = c.loop-i.i in
-    let cd : ℕ = c.choice-one-cd.result in
-    let b = halves c.args.key cd c.choice-one-cd.ensures in
+    let cd : ℕ = c.choice_one-cd.result in
+    let b = halves c.args.key cd c.choice_one-cd.ensures in
     let h : c.loop-i.i < 16 = omega arith in
     let ho : c.loop-i.i < length c.loop-i.out = omega arith in
-    let l : c.turned-left.result ≡ rotated (get_or (0 ∷ TOTALS) (c.loop-i.i + 1) 0) (c.choice-one-cd.result / 2 ^ 28)
+    let l : c.turned-left.result ≡ rotated (get_or (0 ∷ TOTALS) (c.loop-i.i + 1) 0) (c.choice_one-cd.result / 2 ^ 28)
     = c.turned-left.ensures.0 ∙ sym (ap (λ (n : ℕ). rotated (get_or (0 ∷ TOTALS) n 0) (cd / 2 ^ 28)) (add-one i)) in
-    let r : c.turned-right.result ≡ rotated (get_or (0 ∷ TOTALS) (c.loop-i.i + 1) 0) (bit_and c.choice-one-cd.result 0xfffffff)
+    let r : c.turned-right.result ≡ rotated (get_or (0 ∷ TOTALS) (c.loop-i.i + 1) 0) (bit_and c.choice_one-cd.result 0xfffffff)
     = c.turned-right.ensures.0 ∙ sym (ap (λ (n : ℕ). rotated (get_or (0 ∷ TOTALS) n 0) (bit_and cd 0xfffffff)) (add-one i)) in
     let w = shl_whole c.turned-left.result 28 28 64 c.turned-left.ensures.1 (omega arith) in
-    let v : held c.choice-two.result ≡ permute 56 PC2 (c.turned-left.result * 2 ^ 28 + c.turned-right.result)
-    = c.choice-two.ensures ∙ ap (λ (n : ℕ). permute 56 PC2 (n + c.turned-right.result)) w in (
-      ap₂ (λ (p q : ℕ). map held (take (i + 1) (set c.loop-i.out i c.choice-two.result)) ++ schedule (drop (i + 1) SHIFTS) p q) (sym l) (sym r)
+    let v : held c.choice_two.result ≡ permute 56 PC2 (c.turned-left.result * 2 ^ 28 + c.turned-right.result)
+    = c.choice_two.ensures ∙ ap (λ (n : ℕ). permute 56 PC2 (n + c.turned-right.result)) w in (
+      ap₂ (λ (p q : ℕ). map held (take (i + 1) (set c.loop-i.out i c.choice_two.result)) ++ schedule (drop (i + 1) SHIFTS) p q) (sym l) (sym r)
           ∙ key_more c.loop-i.out SHIFTS i (rotated (get_or (0 ∷ TOTALS) i 0) (cd / 2 ^ 28)) (rotated (get_or (0 ∷ TOTALS) i 0) (bit_and cd 0xfffffff))
-          c.choice-two.result c.turned-left.result c.turned-right.result ho h
+          c.choice_two.result c.turned-left.result c.turned-right.result ho h
           (c.turned-left.ensures.0 ∙ total_more i (cd / 2 ^ 28) h b.0) (c.turned-right.ensures.0 ∙ total_more i (bit_and cd 0xfffffff) h b.1) v
           ∙ c.loop-i.invariant.0,
-      length-set c.loop-i.out i c.choice-two.result ∙ c.loop-i.invariant.1,
+      length-set c.loop-i.out i c.choice_two.result ∙ c.loop-i.invariant.1,
     )
 
 pub returns : goal.returns
 unfolding SHIFTS schedule
 returns c =
-    let cd : ℕ = c.choice-one-cd.result in
+    let cd : ℕ = c.choice_one-cd.result in
     let e : c.loop-i.i ≡ 16 = omega arith in
     let g : c.loop-i.i ≡ length c.loop-i.out = omega arith in
     let t : take c.loop-i.i c.loop-i.out ≡ c.loop-i.out = ap (λ (n : ℕ). take n c.loop-i.out) g ∙ take-length c.loop-i.out in

@@ -15,26 +15,26 @@ pub loop-i-preserved : goal.loop-i-preserved
 loop-i-preserved g c =
     let h : 2 * c.loop-i.i + 1 < length c.args.text.now = omega arith in
     let ho : c.loop-i.i < length c.loop-i.out = omega arith in (
-      more c.args.text.now c.loop-i.out c.loop-i.i c.in-Some.high c.in-Some-digit-of.low h ho
-          (sym c.digit-of.ensures.value ∙ c.in-Some.is) (sym c.digit-of-in-loop-i.ensures.value ∙ c.in-Some-digit-of.is)
+      more c.args.text.now c.loop-i.out c.loop-i.i c.in-Some.high c.in-Some-digit_of.low h ho
+          (sym c.digit_of.ensures.value ∙ c.in-Some.is) (sym c.digit_of-in-loop-i.ensures.value ∙ c.in-Some-digit_of.is)
           ∙ c.loop-i.invariant.0,
       simp length-set c.loop-i.invariant.1,
     )
 
-pub returns-in-default : goal.returns-in-default
-returns-in-default g c =
+pub returns-in_default : goal.returns-in_default
+returns-in_default g c =
     let h : 2 * c.loop-i.i + 1 < length c.args.text.now = omega arith in
     let l : length c.args.text.now ≡ 2 * g.row.N = omega arith in
     sym (right_length g.row.N c.args.text.now l ∙ sym c.loop-i.invariant.0
-    ∙ no_high c.args.text.now c.loop-i.out c.loop-i.i h (sym c.digit-of.ensures.value ∙ c.in-default.is))
+    ∙ no_high c.args.text.now c.loop-i.out c.loop-i.i h (sym c.digit_of.ensures.value ∙ c.in_default.is))
 
-pub returns-in-default-digit-of : goal.returns-in-default-digit-of
-returns-in-default-digit-of g c =
+pub returns-in_default-digit_of : goal.returns-in_default-digit_of
+returns-in_default-digit_of g c =
     let h : 2 * c.loop-i.i + 1 < length c.args.text.now = omega arith in
     let l : length c.args.text.now ≡ 2 * g.row.N = omega arith in
     sym (right_length g.row.N c.args.text.now l ∙ sym c.loop-i.invariant.0
     ∙ no_low c.args.text.now c.loop-i.out c.loop-i.i c.in-Some.high h
-    (sym c.digit-of.ensures.value ∙ c.in-Some.is) (sym c.digit-of-in-loop-i.ensures.value ∙ c.in-default-digit-of.is))
+    (sym c.digit_of.ensures.value ∙ c.in-Some.is) (sym c.digit_of-in-loop-i.ensures.value ∙ c.in_default-digit_of.is))
 
 pub returns : goal.returns
 unfolding bytes

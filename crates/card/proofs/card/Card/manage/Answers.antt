@@ -14,7 +14,7 @@ returns g c =
     let session = c.in-Open.session in
     let command = meaning c.args.command in
     let plain = plain_allowed (held c.args.self.now.contents).state in
-    let whole = unwrapped_some cipher session plain command session.level c.args.work.now c.decipher-field.new.work c.in-Some.end c.in-Some.ensures.text (omega (arith, c.requires)) in
+    let whole = unwrapped_some cipher session plain command session.level c.args.work.now c.decipher_field.new.work c.in-Some.end c.in-Some.ensures.text (omega (arith, c.requires)) in
     record {
       did = managed_read cipher (view {C = g.row.C.Denot} g.S.Source.coming c.args.self.now) c.args.self.now.channel session c.args.management command _ _ _ c.in-Open.is whole c.read.ensures.did;
       whole = c.read.ensures.whole;

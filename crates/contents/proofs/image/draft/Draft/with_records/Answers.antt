@@ -7,10 +7,10 @@ use Rattle.contents.proofs.image.draft.Draft.with_records.Goals as goal
 pub loop-behind-init : goal.loop-behind-init
 loop-behind-init c = reading_starts _ _
 
-pub returns-in-err-behind : goal.returns-in-err-behind
-returns-in-err-behind c =
-    let p = err_from_is_err_and c.from-residual.result c.from-residual.ensures.1 in
-    rw (p.1, p.2) (sym (reading_fails c.loop-behind.invariant c.in-err-behind.ensures.rest))
+pub returns-in_err-behind : goal.returns-in_err-behind
+returns-in_err-behind c =
+    let p = err_from_is_err_and c.from_residual.result c.from_residual.ensures.1 in
+    rw (p.1, p.2) (sym (reading_fails c.loop-behind.invariant c.in_err-behind.ensures.rest))
 
 pub loop-behind-smaller : goal.loop-behind-smaller
 loop-behind-smaller c =
@@ -22,4 +22,4 @@ loop-behind-preserved c =
 
 pub returns : goal.returns
 returns c =
-    sym (reading_ends c.loop-behind.invariant (none_behind c.in_default.is c.in-ok-behind.ensures.rest) c.in-ok-behind.ensures.draft)
+    sym (reading_ends c.loop-behind.invariant (none_behind c.in_default.is c.in_ok-behind.ensures.rest) c.in_ok-behind.ensures.draft)
