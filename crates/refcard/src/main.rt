@@ -5,6 +5,7 @@ use present::Present;
 use refused::Refused;
 use script::run;
 use std::io::{Read, Write};
+use std::process::ExitCode;
 use std::{env, fs};
 use tripledes::TripleDes;
 
@@ -120,10 +121,12 @@ fn answer(rt: &HostRuntime) -> Result<(), Refused> {
     }
 }
 
-fn main(rt: HostRuntime) -> Result<(), Refused> {
-    let answered = answer(&rt);
-    if let Err(refused) = &answered {
-        let _ = eprintln!(rt; "refcard: {refused}");
+fn main(rt: HostRuntime) -> ExitCode {
+    match answer(&rt) {
+        Ok(()) => ExitCode::SUCCESS,
+        Err(refused) => {
+            let _ = eprintln!(rt; "refcard: {refused}");
+            ExitCode::FAILURE
+        }
     }
-    answered
 }

@@ -27,7 +27,7 @@ const MOST_TURNS: u16 = 4096;
 fn is_reset(line: &[u8]) -> bool
     ensures { result ≡ bytes_eq line.now (codes "RESET") }
 {
-    line == b"RESET"
+    line == b"RESET".as_slice()
 }
 
 // Hands in a command, and gives the status word of the answer.

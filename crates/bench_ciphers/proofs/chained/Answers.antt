@@ -14,7 +14,7 @@ pub loop-i-preserved : goal.loop-i-preserved
 unfolding times
 loop-i-preserved g c =
     let under : List ℕ → List ℕ = g.C.Cipher.enc c.args.key.now in
-    c.encipher_block.ensures
+    c.encipher-block.ensures
     ∙ ap₂ (λ (f : List ℕ → List ℕ) (b : List ℕ). f b) c.expand-keys.ensures.enc c.loop-i.invariant
     ∙ sym (ap (λ (n : ℕ). times n under c.args.start) (add-one c.loop-i.i))
 

@@ -4,7 +4,7 @@ use Rattle.card.specs.Cards.{view}
 use Rattle.script.specs.Lines.{lines_of}
 use Rattle.script.proofs.Playing.{rows_more, rows_none, rows_all}
 use Rattle.script.proofs.play.rows.Goals as goal
-use Rattle.script.proofs.play.rows.Goals.{else-loop-number-test, then-loop-number-test+in-default}
+use Rattle.script.proofs.play.rows.Goals.{else-loop-number-test, then-loop-number-test+in_default}
 
 pub loop-number-preserved : goal.loop-number-preserved
 loop-number-preserved g c =
@@ -24,5 +24,5 @@ returns g c =
     let printed = vec_items c.loop-number.printed in
     elim c.loop-number-test.branch [
       | else-loop-number-test w ↦ sym (rows_all cipher m c.loop-number.number lines printed w.loop-number-test.false) ∙ c.loop-number.invariant
-      | then-loop-number-test+in-default w ↦ sym (rows_none cipher m c.loop-number.number lines printed w.in_default.ensures.0) ∙ c.loop-number.invariant
+      | then-loop-number-test+in_default w ↦ sym (rows_none cipher m c.loop-number.number lines printed w.in_default.ensures.0) ∙ c.loop-number.invariant
     ]
