@@ -1,4 +1,6 @@
 // What a call can say: numbered refusals of the library, and the status words of the card.
+#![tactic(auto)]
+
 ghost use Rattle.std.specs.Prelude.{◌≡◌, ◌/◌, ◌%◌, [], ◌∷◌};
 ghost use Rattle.answers.specs.Numbers.{refusal_number, status_value, status_bytes};
 

@@ -1,4 +1,6 @@
 // Commands: how their bytes are read, and the instructions with the classes in which they are given.
+#![tactic(auto)]
+
 ghost use Rattle.std.specs.Prelude.{◌≡◌, ℕ, ◌+◌, ◌≤◌, length};
 ghost use Rattle.std.specs.Option.{option_map};
 ghost use Rattle.apdu.specs.Apdu.{meaning, headed, with_field, apdu, instruction_of, management_of, owns, known_class};

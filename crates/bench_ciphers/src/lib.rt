@@ -1,4 +1,6 @@
 // The ciphers for a C host to measure.
+#![tactic(auto)]
+
 ghost use Rattle.std.specs.Prelude.{◌≡◌};
 ghost use Rattle.bench_ciphers.specs.Chain.{times, Chained};
 ghost use Rattle.present.specs.Present as present;

@@ -1,4 +1,6 @@
 // Triple DES for a C host to measure.
+#![tactic(auto)]
+
 ghost use Rattle.std.specs.Prelude.{◌≡◌, List, ℕ};
 ghost use Rattle.bench_des.specs.Chain.{times, Chained};
 ghost use Rattle.tripledes.specs.TripleDes.{encipher};

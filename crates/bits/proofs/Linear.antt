@@ -1,6 +1,6 @@
 -- Maps of numbers that go through exclusive or. Two such maps are equal below 2 ^ w once they are at the w powers of two,
 -- which is a test that antt computes: so one test settles a permutation of bits, however it is written.
-use Rattle.std.proofs.Common.{◌≡◌, ℕ, zero, suc, ◌+◌, ◌-◌, ◌*◌, ◌/◌, ◌%◌, ◌^◌, ◌<◌, ◌≤◌, min, Bool, true, false, T, eqb, List, [], ◌∷◌, length, sym, refl, ap, ◌∙◌, subst, ap₂, inl, inr, le_of_suc-le-suc, not-suc-le-zero, lt_of_le_of_lt, add-zero, mod-lt, zero-lt-suc, one-mul, pow-suc, zero-mul, arith, eqb→eq, pow_pos, shr_lt}
+use Rattle.std.proofs.Common.{◌≡◌, ℕ, zero, suc, ◌+◌, ◌-◌, ◌*◌, ◌/◌, ◌%◌, ◌^◌, ◌<◌, min, Bool, true, false, T, eqb, List, [], ◌∷◌, length, sym, refl, ap, ◌∙◌, subst, ap₂, inl, inr, le_of_suc-le-suc, not-suc-le-zero, lt_of_le_of_lt, add-zero, mod-lt, zero-lt-suc, one-mul, pow-suc, zero-mul, arith, eqb→eq, pow_pos, shr_lt}
 use native.Mathlib.Nat.{min-le_left, min-zero}
 use lib.Arith.{lt-one, bin_ind}
 use lib.Pow.{split}

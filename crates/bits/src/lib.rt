@@ -1,4 +1,6 @@
 // The bits of a word: exchanges of bits, of which any permutation is made, and the bytes that a word is written as.
+#![tactic(auto)]
+
 ghost use Rattle.std.specs.Prelude.{◌≡◌, ℕ, ◌%◌, ◌<◌};
 ghost use Rattle.bits.specs.Octets.{value, octets};
 ghost use Rattle.bits.specs.Swap.{exchange};

@@ -1,5 +1,5 @@
 -- A command that is handed in with room for its answer.
-use Rattle.std.proofs.Common.{◌≡◌, ℕ, ◌≤◌, false, ltb, List, ◌++◌, length, drop, replicate, Ok, refl, ap, ◌∙◌, le-ltb}
+use Rattle.std.proofs.Common.{◌≡◌, ℕ, ◌≤◌, false, ltb, List, ◌++◌, length, drop, replicate, Ok, ap, ◌∙◌, le-ltb}
 use Rattle.answers.specs.Areas.{fronted}
 use Rattle.cipher.specs.Blocks.{Algorithm}
 use Rattle.card.specs.declared.answer.Answer.{Answer}

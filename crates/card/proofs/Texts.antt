@@ -1,5 +1,5 @@
 -- The parts of an answer, written one behind the other.
-use Rattle.std.proofs.Common.{◌≡◌, ℕ, ◌+◌, ◌≤◌, List, [], ◌∷◌, ◌++◌, length, sym, refl, ap, ◌∙◌, append_assoc, arith, length-append}
+use Rattle.std.proofs.Common.{◌≡◌, ℕ, ◌+◌, ◌≤◌, List, [], ◌∷◌, ◌++◌, length, ap, ◌∙◌, append_assoc, arith, length-append}
 use Rattle.answers.specs.Areas.{written, fronted}
 use Rattle.answers.specs.Numbers.{status_bytes}
 use Rattle.answers.proofs.Writing.{Wrote, wrote_more, front_of_two}

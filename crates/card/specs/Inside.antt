@@ -1,5 +1,5 @@
 -- The channel commands: a channel is open, the command is read in it, and its own rule answers.
-use Rattle.std.specs.Prelude.{ℕ, Bool, cond, List, Some, None, Option}
+use Rattle.std.specs.Prelude.{ℕ, cond, List, Some, None, Option}
 use Rattle.answers.specs.declared.StatusWord.TheVariants.{SecurityNotSatisfied}
 use Rattle.answers.specs.Replies.{Reply, only}
 use Rattle.apdu.specs.declared.Management.{Management}

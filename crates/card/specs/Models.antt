@@ -1,5 +1,5 @@
 -- A card as its rules see it: what it holds, its channel, and the challenges still to come.
-use Rattle.std.specs.Prelude.{◌≡◌, ℕ, true, List}
+use Rattle.std.specs.Prelude.{◌≡◌, true}
 use Rattle.answers.specs.declared.StatusWord.{StatusWord}
 use Rattle.challenge.specs.Draws.{Challenges}
 use Rattle.contents.specs.Held.{Held, sound}

@@ -3,7 +3,6 @@ use Rattle.std.specs.Prelude.{ℕ, List, [], ◌∷◌, ◌++◌}
 use Rattle.answers.specs.declared.StatusWord.TheVariants.{Success}
 use Rattle.answers.specs.Replies.{Reply, reply, only}
 use Rattle.rules.specs.Own.{receipt_bytes}
-use Rattle.card.specs.declared.answer.Update.{Update}
 use Rattle.card.specs.declared.answer.Answer.{Answer}
 use Rattle.card.specs.declared.answer.Answer.TheVariants.{Status, Manager, Updated, Received}
 

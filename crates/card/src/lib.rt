@@ -1,4 +1,6 @@
 // The card manager of a Java card, over any block cipher and any source of challenges.
+#![tactic(auto)]
+
 mod admit;
 pub mod answer;
 mod bytes;

@@ -1,4 +1,6 @@
 // Where a card's challenges come from.
+#![tactic(auto)]
+
 ghost use Rattle.std.specs.Prelude.{◌≡◌, ◌++◌, length};
 ghost use Rattle.challenge.specs.Draws.{Challenges, Drawn};
 

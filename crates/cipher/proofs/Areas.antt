@@ -1,5 +1,5 @@
 -- An area that is filled block by block. Assumes nothing.
-use Rattle.std.proofs.Common.{◌≡◌, ℕ, ◌+◌, ◌<◌, ◌≤◌, List, [], ◌++◌, length, get_or, take, drop, sym, refl, ap, ◌∙◌, append_assoc, append-nil, arith, rules}
+use Rattle.std.proofs.Common.{◌≡◌, ℕ, ◌+◌, ◌<◌, ◌≤◌, List, [], ◌++◌, length, get_or, take, drop, sym, ap, ◌∙◌, append_assoc, append-nil, arith, rules}
 use Rattle.std.proofs.lemmas.List.{same_lists, places, length-take-le, take-append-drop, drop-drop, at_drop_more, at_drop_all}
 use Rattle.answers.specs.Areas.{written, fronted}
 use Rattle.cipher.specs.Blocks.{xor}

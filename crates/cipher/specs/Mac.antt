@@ -1,6 +1,6 @@
 -- The chained code (CBC-MAC) of some bytes under a block cipher. The byte 80 is appended, then bytes 00 up to a multiple of
 -- eight; each block in turn is xored with the value so far and enciphered; the last value is the code.
-use Rattle.std.specs.Prelude.{◌≡◌, ℕ, ◌-◌, ◌/◌, ◌%◌, ◌<◌, List, [], ◌∷◌, ◌++◌, length, replicate, fold}
+use Rattle.std.specs.Prelude.{◌≡◌, ℕ, ◌-◌, ◌/◌, ◌%◌, ◌<◌, List, ◌∷◌, ◌++◌, length, replicate, fold}
 use Rattle.std.specs.Simd.{first_chunks}
 use Rattle.cipher.specs.Blocks.{xor, Direction}
 

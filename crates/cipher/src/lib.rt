@@ -1,4 +1,6 @@
 // Block ciphers of eight-byte blocks under sixteen-byte keys, and the chained code that they give.
+#![tactic(auto)]
+
 ghost use Rattle.std.specs.Prelude.{◌≡◌, ℕ, ◌<◌, List};
 ghost use Rattle.cipher.specs.Blocks.{Bytes, Direction, xor};
 

@@ -12,7 +12,7 @@ use Rattle.contents.specs.declared.records.KeySet.{KeySet}
 use Rattle.contents.specs.declared.image.draft.Kind.{Kind}
 use Rattle.contents.specs.declared.image.draft.Kind.TheVariants.{Keys, Registered, End}
 use Rattle.contents.specs.Records.{name_of, bears, has_version}
-use Rattle.contents.specs.Held.{Held, all, any, distinct, same_version, same_name, sound_key_set, sound_entry, sound}
+use Rattle.contents.specs.Held.{Held, all, any, distinct, same_version, same_name, sound_key_set, sound_entry}
 use Rattle.contents.specs.Image.{header_bytes, key_set_bytes, entry_bytes, key_set_in, entry_in, is_empty, next_kind, with_key_set, with_entry, Step, fault, last, next, read_fields, read_body, read_record, read_records}
 use Rattle.contents.proofs.Bodies.{key_set_back, entry_back}
 use Rattle.contents.proofs.Uniques.{all_push, any_alike, distinct_push}

@@ -1,4 +1,6 @@
 // What a card holds: its life cycle state, diversification data, key sets and registry; and the image that stores it.
+#![tactic(auto)]
+
 ghost use Rattle.std.specs.Prelude.{◌≡◌, ◌≤◌, true};
 ghost use Rattle.contents.specs.Held.{holding, sound};
 

@@ -1,5 +1,7 @@
 // Draws a counting source of triple DES to its end and prints some of its challenges; then what is refused. The start block is the
 // highest, so that challenge 1 is that of the block 0.
+#![tactic(auto)]
+
 use bits::value_of;
 use challenge::Source;
 use counting::Counting;

@@ -1,4 +1,6 @@
 // Challenges that are counted: enciphered blocks, each one more than the block before it.
+#![tactic(auto)]
+
 ghost use Rattle.std.specs.Prelude.{◌≡◌, length, take, if◌then◌else◌, Some, None, Ok, Err, MatchResult, nat_eq};
 ghost use Rattle.std.proofs.Common.{sym};
 ghost use Rattle.counting.specs.Counted.{Distinct, counted_from, counted_past, source_of};

@@ -1,4 +1,6 @@
 // Plays the script on standard input on a card that has XTEA, and prints its rows; before that it runs the published vectors.
+#![tactic(auto)]
+
 mod vectors;
 
 use anyhow::anyhow;

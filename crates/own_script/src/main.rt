@@ -1,5 +1,7 @@
 // Writes a script for a card that has XTEA: a terminal opens a channel at level 03 with such a card and sends its commands, and each
 // command that went over is a line.
+#![tactic(auto)]
+
 mod hex;
 mod scene;
 

@@ -1,4 +1,6 @@
 // PRESENT with a key of 128 bits, as a block cipher.
+#![tactic(auto)]
+
 ghost use Rattle.std.specs.Prelude.{◌≡◌, true};
 ghost use Rattle.present.specs.Laws.{Layers, Deciphers, Enciphers};
 ghost use Rattle.present.specs.Present.{encipher, decipher, identifier};

@@ -1,4 +1,6 @@
 // The reference card as a program: a script in, printed rows out.
+#![tactic(auto)]
+
 mod refused;
 
 use present::Present;

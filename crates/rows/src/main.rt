@@ -1,5 +1,7 @@
 // Plays the scripts that the arguments name, and prints under each name what its script prints. A script whose name begins with
 // `present_` is played on a card with PRESENT, any other on one with triple DES.
+#![tactic(auto)]
+
 use present::Present;
 use script::run;
 use std::io::Write;

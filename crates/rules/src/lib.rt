@@ -1,4 +1,6 @@
 // The own rules of the channel commands: what each does to a card's contents, and what it answers.
+#![tactic(auto)]
+
 mod bytes;
 pub mod deletion;
 pub mod inquiry;

@@ -16,7 +16,6 @@ use Rattle.contents.specs.Held.{Held}
 use Rattle.contents.specs.Image.{read_image}
 use Rattle.scp01.specs.declared.Level.{Level}
 use Rattle.scp01.specs.Levels.{level_value}
-use Rattle.terminal.specs.declared.Phase.TheVariants as phase
 use Rattle.terminal.specs.Sides.{Side, fit_for, fresh, made_of, authenticate_command}
 use Rattle.runs.specs.declared.conduct.Talk.{Talk}
 use Rattle.runs.specs.Conducting.{Said, said_events, Conversed, Run, Conducted, unmade_of, refused_for, refusal}

@@ -7,7 +7,7 @@ use Rattle.answers.specs.Replies.{Reply, reply_bytes}
 use Rattle.apdu.specs.declared.Instruction.{Instruction}
 use Rattle.apdu.specs.declared.Instruction.TheVariants.{Manage}
 use Rattle.apdu.specs.declared.Management.{Management}
-use Rattle.apdu.specs.Apdu.{Apdu, apdu, instruction_of, known_class, owns, changing}
+use Rattle.apdu.specs.Apdu.{Apdu, apdu, instruction_of, known_class, owns}
 use Rattle.card.specs.Admitting.{admitted, is_terminated, in_own_class}
 use Rattle.card.specs.declared.channel.Channel.{Channel}
 use Rattle.card.specs.declared.channel.Channel.TheVariants.{Closed, Waiting, Open}

@@ -4,7 +4,7 @@ use Rattle.std.proofs.lemmas.Bool.{cond_both, true≢false}
 use Rattle.std.proofs.lemmas.List.{take_at}
 use Rattle.cipher.specs.Blocks.{Direction, zeros}
 use Rattle.cipher.specs.Cbc.{cbc_enciphered}
-use Rattle.answers.specs.Areas.{written, fronted}
+use Rattle.answers.specs.Areas.{fronted}
 use Rattle.answers.proofs.Writing.{written_nothing, written_more, written_front}
 use Rattle.scp01.specs.Inside.{closing, body_text}
 use Rattle.scp01.specs.Wrapping.{PutAt, PutInFront, field_bytes, le_bytes, enciphered}

@@ -1,5 +1,5 @@
 -- Session keys, cryptograms and command codes of SCP01: what card and terminal both work out.
-use Rattle.std.specs.Prelude.{ℕ, ◌+◌, List, [], ◌∷◌, ◌++◌, length, take, drop}
+use Rattle.std.specs.Prelude.{ℕ, ◌+◌, List, ◌∷◌, ◌++◌, length, take, drop}
 use Rattle.cipher.specs.Blocks.{Direction, zeros}
 use Rattle.cipher.specs.Mac.{mac}
 use Rattle.scp01.specs.declared.SessionKeys.{SessionKeys}

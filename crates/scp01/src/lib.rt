@@ -1,4 +1,6 @@
 // SCP01: what card and terminal both work out of a key set, two challenges and a command.
+#![tactic(auto)]
+
 ghost use Rattle.std.specs.Prelude.{◌≡◌, ℕ, ◌+◌, ◌≤◌, ◌++◌, length, if◌then◌else◌, Some, None, nat_lt};
 ghost use Rattle.cipher.specs.Blocks.{zeros};
 ghost use Rattle.cipher.specs.Mac.{mac};

@@ -1,11 +1,11 @@
 -- Rows printed one after the other.
-use Rattle.std.proofs.Common.{◌≡◌, ℕ, zero, suc, ◌+◌, ◌-◌, ◌≤◌, List, [], ◌∷◌, ◌++◌, map, take, sym, refl, ap, ◌∙◌, subst, ap₂, append_assoc, append-nil, arith}
+use Rattle.std.proofs.Common.{◌≡◌, ℕ, zero, suc, ◌+◌, ◌-◌, ◌≤◌, List, [], ◌∷◌, ◌++◌, map, take, refl, ap, ◌∙◌, append_assoc, append-nil, arith}
 use Rattle.cipher.specs.Blocks.{Algorithm}
 use Rattle.card.specs.Models.{Model}
 use Rattle.script.specs.declared.row.Row.{Row}
 use Rattle.script.specs.Lines.{Line}
 use Rattle.script.specs.Rows.{row_bytes}
-use Rattle.script.specs.Turns.{Turn, turn_of, took, rows_from}
+use Rattle.script.specs.Turns.{turn_of, took, rows_from}
 
 -- the rows of lines from a number on, up to the number 4,096
 abbrev pub rows_of : Algorithm → Model → ℕ → List Line → List ℕ

@@ -1,7 +1,7 @@
 -- The first line of a script, and what is left behind it.
-use Rattle.std.proofs.Common.{◌≡◌, ℕ, suc, ◌+◌, ◌-◌, ◌<◌, ◌≤◌, Bool, true, false, cond, not, eqb, List, [], ◌∷◌, length, take, drop, sym, refl, ap, ◌∙◌, subst, ap₂, add-one, one-add, arith}
+use Rattle.std.proofs.Common.{◌≡◌, ℕ, ◌+◌, ◌-◌, ◌<◌, ◌≤◌, Bool, true, false, cond, not, eqb, List, [], ◌∷◌, length, take, drop, refl, ap, add-one, one-add, arith}
 use Rattle.std.proofs.lemmas.List.{take_all, take_rest}
-use Rattle.script.specs.Lines.{Line, onto, lines_of, line_length}
+use Rattle.script.specs.Lines.{onto, lines_of, line_length}
 
 -- the first line ends in 0A
 pub ended : (bs : List ℕ) → line_length bs < length bs

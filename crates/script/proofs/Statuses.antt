@@ -1,5 +1,5 @@
 -- The status word of an answer, read back from the area.
-use Rattle.std.proofs.Common.{◌≡◌, ℕ, ◌+◌, ◌-◌, ◌≤◌, Bool, true, false, cond, List, [], ◌∷◌, ◌++◌, length, get_or, Ok, Err, sym, refl, ap, ◌∙◌, arith, rules}
+use Rattle.std.proofs.Common.{◌≡◌, ℕ, ◌+◌, ◌-◌, ◌≤◌, Bool, true, false, cond, List, [], ◌∷◌, ◌++◌, length, get_or, Ok, Err, arith}
 use Rattle.std.proofs.lemmas.List.{places, length-append}
 use Rattle.answers.specs.declared.Refusal.TheVariants.{AreaTooShort}
 use Rattle.answers.specs.Areas.{fronted}

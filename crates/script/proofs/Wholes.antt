@@ -1,5 +1,5 @@
 -- From the lines of a script to what is printed for it.
-use Rattle.std.proofs.Common.{◌≡◌, ℕ, ◌+◌, List, [], ◌∷◌, map, get_or, take, drop, Ok, Err, sym, refl, ap, ◌∙◌, ap₂}
+use Rattle.std.proofs.Common.{◌≡◌, ℕ, List, [], map, get_or, take, drop, Ok, Err, sym, ap, ◌∙◌, ap₂}
 use Rattle.std.proofs.lemmas.List.{drop-drop, get_or-drop}
 use Rattle.answers.specs.declared.Refusal.{Refusal}
 use Rattle.challenge.specs.Draws.{Challenges, groups}

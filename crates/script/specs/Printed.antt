@@ -6,7 +6,7 @@ use Rattle.cipher.specs.Blocks.{Algorithm}
 use Rattle.contents.specs.Held.{Held}
 use Rattle.contents.specs.Image.{read_image}
 use Rattle.card.specs.declared.channel.Channel.TheVariants.{Closed}
-use Rattle.card.specs.Models.{Model, model}
+use Rattle.card.specs.Models.{model}
 use Rattle.script.specs.declared.row.Row.TheVariants.{ImageRefused}
 use Rattle.script.specs.Digits.{line_bytes}
 use Rattle.script.specs.Lines.{Line, lines_of}

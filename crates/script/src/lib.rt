@@ -1,4 +1,6 @@
 // Scripts of a laboratory: an image, recorded challenges and commands in, printed rows out.
+#![tactic(auto)]
+
 mod digits;
 mod lines;
 mod play;

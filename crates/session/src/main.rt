@@ -1,6 +1,8 @@
 // Two sessions with a card. Strangers hand in commands, and then a terminal that has the card's keys opens a channel, installs an
 // application and puts a new key set; the card is stored, made again of its image, and a terminal with the new set opens a channel
 // and deletes. Prints what was done and what came back.
+#![tactic(auto)]
+
 mod hex;
 mod scene;
 mod telling;

@@ -1,4 +1,6 @@
 // A terminal: it opens a channel with a card and wraps commands for it.
+#![tactic(auto)]
+
 use scp01::Session;
 use std::marker::PhantomData;
 

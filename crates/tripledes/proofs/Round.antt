@@ -1,8 +1,8 @@
 -- The cipher function by a table: P goes through the exclusive or of what the selection functions give.
-use Rattle.std.proofs.Common.{◌≡◌, ℕ, zero, suc, ◌+◌, ◌-◌, ◌*◌, ◌/◌, ◌%◌, ◌^◌, ◌<◌, ◌≤◌, Bool, true, false, T, ltb, List, [], ◌∷◌, length, get_or, sym, refl, ap, ◌∙◌, subst, ap₂, lt_of_lt_of_le, zero-lt-suc, arith, ltb→lt, pow_mono, pow-add}
+use Rattle.std.proofs.Common.{◌≡◌, ℕ, zero, suc, ◌+◌, ◌-◌, ◌*◌, ◌/◌, ◌%◌, ◌^◌, ◌<◌, ◌≤◌, Bool, true, T, ltb, List, [], ◌∷◌, length, get_or, sym, ap, ◌∙◌, subst, ap₂, lt_of_lt_of_le, zero-lt-suc, arith, ltb→lt, pow_mono, pow-add}
 use lib.Bits.{bit_and, bit_or, bit_xor, and_shifted, or_disjoint, xor_disjoint, xor_shifted, xor_mod, xor_shr, xor_zero_r, xor_assoc}
 use Rattle.std.proofs.lemmas.Nat.{mul-add-lt, shl_below}
-use Rattle.bits.specs.Permute.{bit, permute}
+use Rattle.bits.specs.Permute.{permute}
 use Rattle.bits.proofs.Linear.{Lin, both, both_left, both_right, agree, basis, lin_of, lin_xor, lin_shr, lin_shl, lin_mod, lin_zero, lin_permute, and_permute}
 use Rattle.tripledes.specs.Des.{box, selected, f}
 use Rattle.tripledes.specs.Round.{boxed, odds, evens, PLACES, held}

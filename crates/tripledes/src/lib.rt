@@ -1,4 +1,6 @@
 // Triple DES with keying option 2, as a block cipher.
+#![tactic(auto)]
+
 ghost use Rattle.std.specs.Prelude.{◌≡◌, ℕ, ◌≤◌, true, take, drop};
 ghost use Rattle.tripledes.specs.Laws.{Backwards, Deciphers, Enciphers, ParityFree};
 ghost use Rattle.tripledes.specs.Published.{Published};

@@ -1,5 +1,5 @@
 -- Hexadecimal text as bytes: two digits to a byte, the higher first, letters of either case.
-use Rattle.std.specs.Prelude.{ℕ, ◌+◌, ◌-◌, ◌*◌, Bool, true, false, cond, List, [], ◌∷◌, length, Some, None, Option, ◌==◌, nat_le}
+use Rattle.std.specs.Prelude.{ℕ, ◌+◌, ◌-◌, ◌*◌, Bool, false, cond, List, [], ◌∷◌, length, Some, None, Option, ◌==◌, nat_le}
 
 abbrev pub between : ℕ → ℕ → ℕ → Bool
 between low high c = cond (nat_le low c) (nat_le c high) false

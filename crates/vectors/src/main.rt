@@ -1,4 +1,6 @@
 // Runs the vector files that the arguments name, and prints for each how many rows it has and how many agreed.
+#![tactic(auto)]
+
 mod hex;
 mod rows;
 

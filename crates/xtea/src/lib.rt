@@ -1,4 +1,6 @@
 // XTEA as a block cipher: a small cipher from which one's own can be copied.
+#![tactic(auto)]
+
 ghost use Rattle.std.specs.Prelude.{◌≡◌, ◌<◌, ◌≤◌, take, drop};
 ghost use Rattle.xtea.specs.Xtea.{cycle, cycles, decipher, deciphering, encipher, enciphering, first_key, halves, identifier, joined, mix, second_key, sum, uncycle, uncycles, words_of};
 ghost use Rattle.xtea.specs.Cycles.{cycles_small, cycles_undone, uncycles_small, cycles_redone};

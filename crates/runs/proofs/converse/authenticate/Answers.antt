@@ -1,10 +1,10 @@
-use Rattle.std.proofs.Common.{◌≡◌, Ok, Err, ap, arith}
+use Rattle.std.proofs.Common.{◌≡◌, Ok, ap, arith}
 use Rattle.cipher.specs.Blocks.{algorithm}
 use Rattle.card.specs.Cards.{view}
 use Rattle.terminal.specs.Sides.{side, Outcome}
 use Rattle.runs.specs.Conversing.{blank, showing}
 use Rattle.runs.specs.Turns.{exchanged}
-use Rattle.runs.proofs.Conversing.{authenticate_within, carried_in, carried_out, shown_at}
+use Rattle.runs.proofs.Conversing.{authenticate_within, carried_in, shown_at}
 use Rattle.runs.proofs.converse.authenticate.Goals as goal
 
 pub slice_bounds-hand_in-end : goal.slice_bounds-hand_in-end

@@ -1,10 +1,8 @@
-use Rattle.std.proofs.Common.{◌≡◌, ◌+◌, List, [], ◌∷◌, ◌++◌, map, length, take, is_ok, vec_items, sym, refl, ap, ◌∙◌, subst, arith, take_all}
+use Rattle.std.proofs.Common.{map, is_ok, vec_items, refl, ap, ◌∙◌, arith, take_all}
 use Rattle.std.proofs.ResultArms.{chosen}
 use Rattle.std.proofs.lemmas.List.{map_push}
 use Rattle.runs.specs.declared.turns.Turn.TheVariants as turn
-use Rattle.cipher.specs.Blocks.{algorithm}
-use Rattle.card.specs.Cards.{view}
-use Rattle.runs.specs.Turns.{input_in, event_in, Played}
+use Rattle.runs.specs.Turns.{input_in, event_in}
 use Rattle.runs.proofs.Turning.{played_none, played_more}
 use Rattle.runs.proofs.play.play.Goals as goal
 

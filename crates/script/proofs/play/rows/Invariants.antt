@@ -1,4 +1,4 @@
-use Rattle.std.proofs.Common.{◌≡◌, ◌-◌, ◌++◌, vec_items}
+use Rattle.std.proofs.Common.{◌≡◌, ◌++◌, vec_items}
 use Rattle.cipher.specs.Blocks.{algorithm}
 use Rattle.card.specs.Cards.{view}
 use Rattle.script.specs.Lines.{lines_of}

@@ -1,4 +1,4 @@
-use Rattle.std.proofs.Common.{◌≡◌, ℕ, List, [], get_or, drop, IfOk, vec_items, sym, ap, ◌∙◌, subst}
+use Rattle.std.proofs.Common.{◌≡◌, ℕ, List, [], get_or, drop, IfOk, vec_items, ap, ◌∙◌, subst}
 use Rattle.challenge.specs.Draws.{groups}
 use Rattle.cipher.specs.Blocks.{algorithm}
 use Rattle.script.specs.Digits.{line_bytes}

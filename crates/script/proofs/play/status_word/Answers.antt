@@ -1,4 +1,4 @@
-use Rattle.std.proofs.Common.{ℕ, List, replicate, arith}
+use Rattle.std.proofs.Common.{replicate, arith}
 use Rattle.cipher.specs.Blocks.{algorithm}
 use Rattle.card.specs.Cards.{view}
 use Rattle.card.specs.Taking.{responded}

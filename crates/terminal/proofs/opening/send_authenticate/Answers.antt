@@ -1,4 +1,3 @@
-use Rattle.std.proofs.Common.{◌≡◌, ◌∙◌, arith}
 use Rattle.terminal.proofs.Commands.{authenticate_written}
 use Rattle.terminal.proofs.opening.send_authenticate.Goals as goal
 

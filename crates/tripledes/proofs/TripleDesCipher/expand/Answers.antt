@@ -1,4 +1,4 @@
-use Rattle.std.proofs.Common.{◌≡◌, ℕ, List, map, reverse, take, drop, ap, ◌∙◌, ap₂}
+use Rattle.std.proofs.Common.{◌≡◌, ℕ, List, map, reverse, ap, ◌∙◌, ap₂}
 use Rattle.bits.specs.Octets.{value}
 use Rattle.tripledes.specs.Des.{round_keys, des, undes}
 use Rattle.tripledes.specs.Round.{held}

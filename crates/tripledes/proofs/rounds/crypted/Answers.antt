@@ -1,5 +1,5 @@
-use Rattle.std.proofs.Common.{map, ap, ◌∙◌}
-use Rattle.bits.specs.Octets.{value, octets}
+use Rattle.std.proofs.Common.{map}
+use Rattle.bits.specs.Octets.{value}
 use Rattle.tripledes.specs.Round.{held}
 use Rattle.tripledes.specs.Schedules.{passes}
 use Rattle.tripledes.specs.Feistel.{thrice}

@@ -1,8 +1,8 @@
-use Rattle.std.proofs.Common.{◌≡◌, ℕ, ◌+◌, ◌*◌, ◌/◌, ◌%◌, ◌^◌, ◌<◌, List, [], map, length, drop, sym, ap, ◌∙◌, ap₂, add-one, arith, drop-cons}
+use Rattle.std.proofs.Common.{◌≡◌, ℕ, ◌+◌, ◌/◌, ◌^◌, ◌<◌, List, [], map, length, drop, sym, ap, ◌∙◌, ap₂, add-one, arith, drop-cons}
 use lib.Bits.{bit_xor, xor_lt, and_mask}
 use lib.Seq.{drop-length}
 use Rattle.std.proofs.lemmas.Nat.{shl_whole}
-use Rattle.tripledes.specs.Des.{f, rounds}
+use Rattle.tripledes.specs.Des.{rounds}
 use Rattle.tripledes.specs.Round.{held}
 use Rattle.tripledes.proofs.rounds.pass.Goals as goal
 

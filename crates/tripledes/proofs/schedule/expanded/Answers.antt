@@ -1,4 +1,4 @@
-use Rattle.std.proofs.Common.{◌≡◌, ℕ, List, map, reverse, ap, ◌∙◌}
+use Rattle.std.proofs.Common.{ℕ, List, map, reverse, ap, ◌∙◌}
 use Rattle.tripledes.specs.Round.{held}
 use Rattle.tripledes.proofs.Keys.{map_reverse}
 use Rattle.tripledes.proofs.schedule.expanded.Goals as goal

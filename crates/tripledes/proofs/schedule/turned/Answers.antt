@@ -1,4 +1,4 @@
-use Rattle.std.proofs.Common.{◌≡◌, ◌-◌, ◌*◌, ◌/◌, ◌%◌, ◌^◌, ◌<◌, arith}
+use Rattle.std.proofs.Common.{◌-◌, ◌*◌, ◌/◌, ◌%◌, ◌^◌, arith}
 use lib.Bits.{bit_xor, and_le_r}
 use Rattle.tripledes.proofs.Keys.{turn_is}
 use Rattle.tripledes.proofs.schedule.turned.Goals as goal

@@ -1,7 +1,7 @@
-use Rattle.std.proofs.Common.{◌≡◌, ℕ, ◌+◌, ◌*◌, ◌<◌, List, length, take, drop, Some, None, sym, refl, ap, ◌∙◌, ap₂, append-nil, arith, length-set}
+use Rattle.std.proofs.Common.{◌≡◌, ℕ, ◌+◌, ◌*◌, ◌<◌, List, length, Some, sym, ap, ◌∙◌, ap₂, append-nil, arith, length-set}
 use lib.ListN.{length-replicate}
 use Rattle.std.proofs.lemmas.List.{take_all, drop_all}
-use Rattle.vectors.specs.Hex.{bytes, exactly}
+use Rattle.vectors.specs.Hex.{bytes}
 use Rattle.vectors.proofs.Digits.{prefixed, prefixed_none, more, no_high, no_low, right_length, wrong_length}
 use Rattle.vectors.proofs.hex.decoded.Goals as goal
 

@@ -1,4 +1,3 @@
-use Rattle.std.proofs.Common.{rules}
 use Rattle.script.proofs.row.Row.text.Goals as goal
 
 pub returns-in-Reset : goal.returns-in-Reset
