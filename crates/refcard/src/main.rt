@@ -73,16 +73,15 @@ fn arguments(rt: &HostRuntime) -> Result<Asked, Refused> {
     let Some(word) = next else {
         return Ok(Asked::Play(cipher, Source::StandardInput));
     };
-    let asked = match word.as_str() {
-        "--help" => Asked::Help,
-        "-" => Asked::Play(cipher, Source::StandardInput),
-        text if text.starts_with('-') => return Err(Refused::UnknownOption(word)),
-        _ => Asked::Play(cipher, Source::File(word)),
-    };
     if args.next().is_some() {
         return Err(Refused::TooManyArguments);
     }
-    Ok(asked)
+    match word.as_str() {
+        "--help" => Ok(Asked::Help),
+        "-" => Ok(Asked::Play(cipher, Source::StandardInput)),
+        text if text.starts_with('-') => Err(Refused::UnknownOption(word)),
+        _ => Ok(Asked::Play(cipher, Source::File(word))),
+    }
 }
 
 fn standard_input(rt: &HostRuntime) -> Result<Vec<u8>, Refused> {
