@@ -1,9 +1,8 @@
 -- The form of a command, and the instructions that a card knows with the classes in which they are given.
 use Rattle.std.specs.Prelude.{ℕ, ◌+◌, Bool, true, false, cond, ◌||◌, List, [], length, take, drop, Some, None, Option, ◌==◌, nat_lt, slice_index}
-use Rattle.std.specs.Option.{option_map}
 use Rattle.apdu.specs.declared.Command.{Command}
 use Rattle.apdu.specs.declared.Instruction.{Instruction}
-use Rattle.apdu.specs.declared.Instruction.TheVariants.{Select, InitializeUpdate, ExternalAuthenticate, Manage}
+use Rattle.apdu.specs.declared.Instruction.TheVariants.{Select, InitializeUpdate, ExternalAuthenticate}
 use Rattle.apdu.specs.declared.Management.{Management}
 use Rattle.apdu.specs.declared.Management.TheVariants.{GetStatus, SetStatus, Install, Delete, PutKey}
 
@@ -61,14 +60,13 @@ instruction_of ins =
     cond (ins == 0xA4) (Some Select)
     (cond (ins == 0x50) (Some InitializeUpdate)
     (cond (ins == 0x82) (Some ExternalAuthenticate)
-    (option_map Manage (management_of ins))))
+    None))
 
 -- the class in which an instruction is given
 abbrev pub owns : Instruction → ℕ → Bool
 owns Select cla = cla == 0x00
 owns InitializeUpdate cla = cla == 0x80
 owns ExternalAuthenticate cla = cla == 0x84
-owns (Manage i) cla = cla == 0x80 || cla == 0x84
 
 abbrev pub known_class : ℕ → Bool
 known_class cla = cla == 0x00 || (cla == 0x80 || cla == 0x84)

@@ -5,6 +5,8 @@ ghost use Rattle.std.specs.Prelude.{◌≡◌, ℕ, ◌+◌, ◌≤◌, length};
 ghost use Rattle.std.specs.Option.{option_map};
 ghost use Rattle.apdu.specs.Apdu.{meaning, headed, with_field, apdu, instruction_of, management_of, owns, known_class};
 
+pub mod known;
+
 // A well-formed command.
 #[derive(Clone, Copy)]
 pub struct Command<'a> {
@@ -31,7 +33,6 @@ pub enum Instruction {
     Select,
     InitializeUpdate,
     ExternalAuthenticate,
-    Manage(Management),
 }
 
 impl Management {
@@ -109,10 +110,7 @@ impl Instruction {
             0xA4 => Some(Instruction::Select),
             0x50 => Some(Instruction::InitializeUpdate),
             0x82 => Some(Instruction::ExternalAuthenticate),
-            _ => match Management::from_byte(byte) {
-                Some(management) => Some(Instruction::Manage(management)),
-                None => None,
-            },
+            _ => None,
         }
     }
 
@@ -124,7 +122,6 @@ impl Instruction {
             Instruction::Select => class == 0x00,
             Instruction::InitializeUpdate => class == 0x80,
             Instruction::ExternalAuthenticate => class == 0x84,
-            Instruction::Manage(_) => class == 0x80 || class == 0x84,
         }
     }
 }

@@ -1,5 +1,5 @@
 -- A card behind its interface.
-use Rattle.std.specs.Prelude.{◌≡◌, ℕ, Bool, cond, ◌||◌, List, ◌++◌, length, drop, replicate, Ok, Err, Result, nat_lt}
+use Rattle.std.specs.Prelude.{◌≡◌, ℕ, ◌<◌, Bool, cond, ◌||◌, List, ◌++◌, length, drop, replicate, Ok, Err, Result, nat_lt}
 use Rattle.answers.specs.declared.Refusal.{Refusal}
 use Rattle.answers.specs.declared.Refusal.TheVariants.{AreaTooShort}
 use Rattle.answers.specs.Areas.{fronted}

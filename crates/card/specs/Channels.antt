@@ -4,7 +4,7 @@ use Rattle.contents.specs.declared.life.CardState.{CardState}
 use Rattle.contents.specs.declared.life.CardState.TheVariants.{OpReady, Initialized, Secured, CmLocked, Terminated}
 use Rattle.scp01.specs.declared.SessionKeys.{SessionKeys}
 use Rattle.apdu.specs.declared.Instruction.{Instruction}
-use Rattle.apdu.specs.declared.Instruction.TheVariants.{Select, InitializeUpdate, ExternalAuthenticate, Manage}
+use Rattle.apdu.specs.declared.Instruction.TheVariants.{Select, InitializeUpdate, ExternalAuthenticate}
 use Rattle.scp01.specs.declared.Level.{Level}
 use Rattle.scp01.specs.declared.Level.TheVariants.{Plain, Mac, MacEncrypted}
 use Rattle.card.specs.declared.channel.Handshake.{Handshake}
@@ -34,12 +34,11 @@ abbrev pub handshake : SessionKeys → List ℕ → List ℕ → Handshake
 handshake keys host card = record { keys = keys; host = host; card = card }
 
 -- the channel once an instruction is taken, and before its own rule: SELECT, INITIALIZE UPDATE and EXTERNAL AUTHENTICATE
--- close what is open and drop what waits; a channel command leaves it
+-- close what is open and drop what waits
 abbrev pub entered : Channel → Instruction → Channel
 entered h Select = Closed
 entered h InitializeUpdate = Closed
 entered h ExternalAuthenticate = Closed
-entered h (Manage i) = h
 
 -- what waits
 abbrev pub waiting : Channel → Option Handshake
@@ -52,7 +51,6 @@ abbrev pub used_up : Channel → Instruction → Option Handshake
 used_up h Select = None
 used_up h InitializeUpdate = None
 used_up h ExternalAuthenticate = waiting h
-used_up h (Manage i) = None
 
 -- a challenge that waits, and the one that it answers, have eight bytes
 abbrev pub sized_channel : Channel → Bool

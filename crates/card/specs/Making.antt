@@ -1,5 +1,6 @@
 -- Making a card of an image and a source.
 use Rattle.std.specs.Prelude.{◌≡◌, ℕ, List, Ok, Err, Result}
+use Rattle.answers.specs.declared.Refusal.{Refusal}
 use Rattle.challenge.specs.Draws.{Challenges}
 use Rattle.contents.specs.Held.{Held}
 use Rattle.contents.specs.Image.{read_image}
@@ -7,7 +8,7 @@ use Rattle.card.specs.declared.card.Card.{Card}
 use Rattle.card.specs.declared.card.make.Unmade.{Unmade}
 use Rattle.card.specs.declared.channel.Channel.TheVariants.{Closed}
 use Rattle.card.specs.Cards.{view}
-use Rattle.card.specs.Models.{model}
+use Rattle.card.specs.Models.{Model, model}
 
 -- the card holds what the image says, has no channel, and draws from the source
 abbrev pub Made : {C S : Type 0} → (S → Challenges) → List ℕ → S → Result (Card C S) (Unmade S) → Type 0

@@ -1,13 +1,12 @@
 -- A card as its rules see it: what it holds, its channel, and the challenges still to come.
-use Rattle.std.specs.Prelude.{◌≡◌, true}
+use Rattle.std.specs.Prelude.{◌≡◌, ℕ, List}
 use Rattle.answers.specs.declared.StatusWord.{StatusWord}
 use Rattle.challenge.specs.Draws.{Challenges}
-use Rattle.contents.specs.Held.{Held, sound}
+use Rattle.contents.specs.Held.{Held}
 use Rattle.card.specs.declared.answer.Answer.{Answer}
 use Rattle.card.specs.declared.channel.Channel.{Channel}
 use Rattle.card.specs.declared.channel.Channel.TheVariants.{Closed}
 use Rattle.answers.specs.Replies.{Reply, only}
-use Rattle.card.specs.Channels.{sized_channel}
 use Rattle.card.specs.Replies.{said}
 
 pub record Model : Type 0 where
@@ -33,8 +32,3 @@ stays m status = (m, only status)
 pub record Did (out : Model × Reply) (after : Model) (answer : Answer) : Type 0 where
   pub model : after ≡ out.0
   pub reply : said answer ≡ out.1
-
--- what always holds of a card: its contents are sound, and a waiting challenge has eight bytes
-pub record Fit (m : Model) : Type 0 where
-  pub channel : sized_channel m.channel ≡ true
-  pub contents : sound m.contents ≡ true

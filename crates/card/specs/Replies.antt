@@ -2,9 +2,9 @@
 use Rattle.std.specs.Prelude.{ℕ, List, [], ◌∷◌, ◌++◌}
 use Rattle.answers.specs.declared.StatusWord.TheVariants.{Success}
 use Rattle.answers.specs.Replies.{Reply, reply, only}
-use Rattle.rules.specs.Own.{receipt_bytes}
+use Rattle.card.specs.declared.answer.Update.{Update}
 use Rattle.card.specs.declared.answer.Answer.{Answer}
-use Rattle.card.specs.declared.answer.Answer.TheVariants.{Status, Manager, Updated, Received}
+use Rattle.card.specs.declared.answer.Answer.TheVariants.{Status, Manager, Updated}
 
 -- what SELECT tells of the card manager: 6F, 84 with its AID, A5 with 9F65 and FF
 abbrev pub manager_data : List ℕ
@@ -19,4 +19,3 @@ abbrev pub said : Answer → Reply
 said (Status s) = only s
 said (Manager s) = reply manager_data s
 said (Updated u) = reply (update_data u.diversification u.version u.challenge u.cryptogram) Success
-said (Received r) = reply (receipt_bytes r) Success

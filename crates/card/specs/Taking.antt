@@ -4,12 +4,11 @@ use Rattle.answers.specs.declared.StatusWord.{StatusWord}
 use Rattle.answers.specs.declared.StatusWord.TheVariants.{WrongLength}
 use Rattle.cipher.specs.Blocks.{Algorithm}
 use Rattle.apdu.specs.declared.Instruction.{Instruction}
-use Rattle.apdu.specs.declared.Instruction.TheVariants.{Select, InitializeUpdate, ExternalAuthenticate, Manage}
+use Rattle.apdu.specs.declared.Instruction.TheVariants.{Select, InitializeUpdate, ExternalAuthenticate}
 use Rattle.card.specs.declared.channel.Handshake.{Handshake}
 use Rattle.apdu.specs.Apdu.{Apdu, apdu}
 use Rattle.card.specs.Admitting.{admitted}
 use Rattle.card.specs.Channels.{entered, used_up}
-use Rattle.card.specs.Inside.{managed}
 use Rattle.card.specs.Models.{Model, with_channel, stays}
 use Rattle.card.specs.Opening.{updated, authenticated}
 use Rattle.answers.specs.Replies.{Reply}
@@ -20,7 +19,6 @@ abbrev pub ruled : Algorithm → Model → Option Handshake → Instruction → 
 ruled cipher m w Select c = (m, selected m.contents c)
 ruled cipher m w InitializeUpdate c = updated cipher m c
 ruled cipher m w ExternalAuthenticate c = authenticated cipher m w c
-ruled cipher m w (Manage i) c = managed cipher m m.channel i c
 
 abbrev pub performed : Algorithm → Model → Result Instruction StatusWord → Apdu → Model × Reply
 performed cipher m (Err status) c = stays m status

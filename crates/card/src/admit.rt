@@ -7,7 +7,7 @@ use answers::StatusWord;
 use apdu::{Command, Instruction, known_class};
 use contents::life::CardState;
 
-pub(crate) fn is_terminated(state: CardState) -> bool
+fn is_terminated(state: CardState) -> bool
     ensures { result ≡ is_terminated state }
 {
     match state {

@@ -6,7 +6,6 @@ ghost use Rattle.answers.specs.Replies.{reply_bytes};
 ghost use Rattle.card.specs.Replies.{said, update_data, manager_data};
 
 use answers::StatusWord;
-use rules::manage::Receipt;
 
 // What INITIALIZE UPDATE answers with.
 #[derive(Clone, Copy)]
@@ -24,8 +23,6 @@ pub enum Answer {
     // what SELECT tells of the card manager
     Manager(StatusWord),
     Updated(Update),
-    // what a channel command answers with 9000
-    Received(Receipt),
 }
 
 // 6F, then 84 with the card manager's AID, and A5 with 9F65 and FF.
@@ -67,7 +64,6 @@ impl Answer {
             Answer::Status(status) => *status,
             Answer::Manager(status) => *status,
             Answer::Updated(_) => StatusWord::Success,
-            Answer::Received(_) => StatusWord::Success,
         }
     }
 
@@ -82,7 +78,6 @@ impl Answer {
             Answer::Status(_) => 0,
             Answer::Manager(_) => put(area, 0, &MANAGER),
             Answer::Updated(update) => update.write(area),
-            Answer::Received(receipt) => put(area, 0, receipt.as_slice()),
         }
     }
 

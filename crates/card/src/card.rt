@@ -6,7 +6,6 @@ use crate::channel::Channel;
 use contents::Contents;
 use std::marker::PhantomData;
 
-mod inside;
 pub mod make;
 pub mod opening;
 pub mod process;

@@ -38,7 +38,7 @@ pub(crate) fn granted_level(state: CardState, byte: u8) -> Option<Level>
 }
 
 // Whether a channel may go without codes.
-pub(crate) fn plain_allowed(state: CardState) -> bool
+fn plain_allowed(state: CardState) -> bool
     ensures { result ≡ plain_allowed state }
 {
     match state {
@@ -58,8 +58,12 @@ impl Channel {
                 *self = Channel::Closed;
                 Some(handshake)
             }
-            (_, Instruction::Manage(_)) => None,
-            (_, _) => {
+            (
+                _,
+                Instruction::Select
+                | Instruction::InitializeUpdate
+                | Instruction::ExternalAuthenticate,
+            ) => {
                 *self = Channel::Closed;
                 None
             }

@@ -4,7 +4,7 @@
 mod vectors;
 
 use anyhow::anyhow;
-use script::run;
+use manager_script::run;
 use std::io::{Read, Write};
 use xtea::Xtea;
 

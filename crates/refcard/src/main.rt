@@ -1,9 +1,8 @@
-// The reference card as a program: a script in, printed rows out.
+// The reference card as a program: a script in, printed rows out. The card has triple DES.
 #![tactic(auto)]
 
 mod refused;
 
-use present::Present;
 use refused::Refused;
 use script::run;
 use std::io::{Read, Write};
@@ -11,10 +10,9 @@ use std::process::ExitCode;
 use std::{env, fs};
 use tripledes::TripleDes;
 
-const HELP: &str = "usage: refcard [--help] [--cipher CIPHER] [SCRIPT]
+const HELP: &str = "usage: refcard [--help] [SCRIPT]
 
-Plays a script on a card, and prints what the card answers. CIPHER is the card's:
-tripledes for triple DES, as without the option, or present for PRESENT.
+Plays a script on a card that has triple DES, and prints what the card answers.
 Without SCRIPT, or where SCRIPT is -, the script is read from standard input.
 
 Line 1 of a script is the card's image, line 2 its recorded challenges; each of up
@@ -26,37 +24,12 @@ RESET the number and ----. For an image that is refused the only row is IMAGE, a
 blank and the number of the refusal, 1 to 5. docs/SCRIPT.md has more.
 ";
 
-// The card's cipher.
-#[derive(Drop)]
-enum Chosen {
-    TripleDes,
-    Present,
-}
-
-// Where the script is read from.
-#[derive(Drop)]
-enum Source {
-    StandardInput,
-    File(String),
-}
-
 // What the arguments ask for.
 #[derive(Drop)]
 enum Asked {
     Help,
-    Play(Chosen, Source),
-}
-
-// The cipher that the word behind --cipher names.
-fn named(word: Option<String>) -> Result<Chosen, Refused> {
-    let Some(word) = word else {
-        return Err(Refused::NoCipher);
-    };
-    match word.as_str() {
-        "tripledes" => Ok(Chosen::TripleDes),
-        "present" => Ok(Chosen::Present),
-        _ => Err(Refused::UnknownCipher(word)),
-    }
+    StandardInput,
+    File(String),
 }
 
 fn arguments(rt: &HostRuntime) -> Result<Asked, Refused> {
@@ -64,23 +37,17 @@ fn arguments(rt: &HostRuntime) -> Result<Asked, Refused> {
         return Err(Refused::Arguments);
     };
     let _program = args.next();
-    let mut next = args.next();
-    let mut cipher = Chosen::TripleDes;
-    if next.as_deref() == Some("--cipher") {
-        cipher = named(args.next())?;
-        next = args.next();
-    }
-    let Some(word) = next else {
-        return Ok(Asked::Play(cipher, Source::StandardInput));
+    let Some(word) = args.next() else {
+        return Ok(Asked::StandardInput);
     };
     if args.next().is_some() {
         return Err(Refused::TooManyArguments);
     }
     match word.as_str() {
         "--help" => Ok(Asked::Help),
-        "-" => Ok(Asked::Play(cipher, Source::StandardInput)),
+        "-" => Ok(Asked::StandardInput),
         text if text.starts_with('-') => Err(Refused::UnknownOption(word)),
-        _ => Ok(Asked::Play(cipher, Source::File(word))),
+        _ => Ok(Asked::File(word)),
     }
 }
 
@@ -106,19 +73,16 @@ fn print(rt: &HostRuntime, bytes: &[u8]) -> Result<(), Refused> {
     }
 }
 
-fn play(rt: &HostRuntime, cipher: Chosen, script: Vec<u8>) -> Result<(), Refused> {
-    let rows = match cipher {
-        Chosen::TripleDes => run::<TripleDes>(rt.alloc(), script.as_slice())?,
-        Chosen::Present => run::<Present>(rt.alloc(), script.as_slice())?,
-    };
+fn play(rt: &HostRuntime, script: Vec<u8>) -> Result<(), Refused> {
+    let rows = run::<TripleDes>(rt.alloc(), script.as_slice())?;
     print(rt, rows.as_slice())
 }
 
 fn answer(rt: &HostRuntime) -> Result<(), Refused> {
     match arguments(rt)? {
         Asked::Help => print(rt, HELP.as_bytes()),
-        Asked::Play(cipher, Source::StandardInput) => play(rt, cipher, standard_input(rt)?),
-        Asked::Play(cipher, Source::File(name)) => play(rt, cipher, file(rt, name)?),
+        Asked::StandardInput => play(rt, standard_input(rt)?),
+        Asked::File(name) => play(rt, file(rt, name)?),
     }
 }
 

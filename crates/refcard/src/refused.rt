@@ -2,15 +2,12 @@
 use std::alloc::AllocError;
 use std::{fmt, io};
 
-const ACCEPTED: &str =
-    "accepted are --help, --cipher tripledes, --cipher present, and behind these one SCRIPT, or - for standard input";
+const ACCEPTED: &str = "accepted are --help, or one SCRIPT, or - for standard input";
 
 #[derive(Drop)]
 pub enum Refused {
     Arguments,
     UnknownOption(String),
-    NoCipher,
-    UnknownCipher(String),
     TooManyArguments,
     Input(io::Error),
     File(String, io::Error),
@@ -29,8 +26,6 @@ impl fmt::Display for Refused {
         match self {
             Refused::Arguments => write!(f, "the arguments cannot be read"),
             Refused::UnknownOption(word) => write!(f, "unknown option {word}: {ACCEPTED}"),
-            Refused::NoCipher => write!(f, "no cipher behind --cipher: {ACCEPTED}"),
-            Refused::UnknownCipher(word) => write!(f, "unknown cipher {word}: {ACCEPTED}"),
             Refused::TooManyArguments => write!(f, "too many arguments: {ACCEPTED}"),
             Refused::Input(why) => write!(f, "standard input cannot be read: {why}"),
             Refused::File(name, why) => write!(f, "{name} cannot be read: {why}"),

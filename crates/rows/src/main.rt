@@ -1,8 +1,6 @@
-// Plays the scripts that the arguments name, and prints under each name what its script prints. A script whose name begins with
-// `present_` is played on a card with PRESENT, any other on one with triple DES.
+// Plays the scripts that the arguments name, and prints under each name what its script prints.
 #![tactic(auto)]
 
-use present::Present;
 use script::run;
 use std::io::Write;
 use std::{env, fs};
@@ -11,11 +9,7 @@ use tripledes::TripleDes;
 fn play(rt: &HostRuntime, name: &str) -> anyhow::Result<()> {
     let file = format!(in rt.alloc(); "{name}.script")?;
     let script = fs::read(rt, file.as_str())?;
-    let rows = if name.starts_with("present_") {
-        run::<Present>(rt.alloc(), script.as_slice())?
-    } else {
-        run::<TripleDes>(rt.alloc(), script.as_slice())?
-    };
+    let rows = run::<TripleDes>(rt.alloc(), script.as_slice())?;
     println!(rt; "== {name}")?;
     rt.stdout().write_all(rows.as_slice())?;
     Ok(())

@@ -6,9 +6,9 @@ use Rattle.answers.specs.declared.Refusal.TheVariants.{IllArgument}
 use Rattle.answers.specs.declared.StatusWord.TheVariants.{Success}
 use Rattle.answers.specs.Numbers.{status_bytes}
 use Rattle.answers.specs.Replies.{reply_bytes}
-use Rattle.card.specs.declared.channel.Channel.TheVariants.{Closed}
-use Rattle.card.specs.Models.{Model, model}
-use Rattle.card.specs.Opening.{keys_of}
+use Rattle.manager.specs.declared.channel.Channel.TheVariants.{Closed}
+use Rattle.manager.specs.Models.{Model, model}
+use Rattle.manager.specs.Opening.{keys_of}
 use Rattle.challenge.specs.Draws.{Challenges}
 use Rattle.cipher.specs.Blocks.{Algorithm}
 use Rattle.contents.specs.declared.records.KeySet.{KeySet}

@@ -12,12 +12,12 @@ use Rattle.answers.specs.Numbers.{status_bytes}
 use Rattle.answers.specs.Replies.{Reply, only, reply_bytes}
 use Rattle.apdu.specs.declared.Management.{Management}
 use Rattle.apdu.specs.Apdu.{Apdu, apdu, management_of}
-use Rattle.card.specs.declared.channel.Channel.TheVariants.{Waiting, Open}
-use Rattle.card.specs.Channels.{handshake, sized_channel}
-use Rattle.card.specs.Models.{Model, model, Fit}
-use Rattle.card.specs.Opening.{keys_of}
-use Rattle.card.specs.Replies.{update_data}
-use Rattle.card.specs.Taking.{responded}
+use Rattle.manager.specs.declared.channel.Channel.TheVariants.{Waiting, Open}
+use Rattle.manager.specs.Channels.{handshake, sized_channel}
+use Rattle.manager.specs.Models.{Model, model, Fit}
+use Rattle.manager.specs.Opening.{keys_of}
+use Rattle.manager.specs.Replies.{update_data}
+use Rattle.manager.specs.Taking.{responded}
 use Rattle.challenge.specs.Draws.{Challenges}
 use Rattle.cipher.specs.Blocks.{Algorithm, Bytes, Undoes, zeros}
 use Rattle.cipher.proofs.Xors.{small_take}

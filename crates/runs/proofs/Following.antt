@@ -4,15 +4,15 @@ use Rattle.std.proofs.lemmas.List.Sums.{fold_push}
 use Rattle.std.proofs.lemmas.Bool.Decides.{nat_tests}
 use Rattle.answers.specs.declared.StatusWord.{StatusWord}
 use Rattle.answers.specs.Replies.{reply_bytes}
-use Rattle.apdu.specs.declared.Instruction.{Instruction}
-use Rattle.apdu.specs.declared.Instruction.TheVariants.{Select, InitializeUpdate, ExternalAuthenticate, Manage}
+use Rattle.apdu.specs.declared.known.Instruction.{Instruction}
+use Rattle.apdu.specs.declared.known.Instruction.TheVariants.{Select, InitializeUpdate, ExternalAuthenticate, Manage}
 use Rattle.apdu.specs.Apdu.{Apdu, apdu}
-use Rattle.card.specs.Admitting.{admitted}
-use Rattle.card.specs.declared.channel.Channel.{Channel}
-use Rattle.card.specs.declared.channel.Channel.TheVariants.{Closed}
-use Rattle.card.specs.Channels.{sized_channel, entered, used_up}
-use Rattle.card.specs.Models.{Model, Fit, model}
-use Rattle.card.specs.Taking.{ruled, performed, taken, responded}
+use Rattle.manager.specs.Admitting.{admitted}
+use Rattle.manager.specs.declared.channel.Channel.{Channel}
+use Rattle.manager.specs.declared.channel.Channel.TheVariants.{Closed}
+use Rattle.manager.specs.Channels.{sized_channel, entered, used_up}
+use Rattle.manager.specs.Models.{Model, Fit, model}
+use Rattle.manager.specs.Taking.{ruled, performed, taken, responded}
 use Rattle.challenge.specs.Draws.{Challenges}
 use Rattle.cipher.specs.Blocks.{Algorithm}
 use Rattle.contents.specs.Held.{Held, sound}

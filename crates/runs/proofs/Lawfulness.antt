@@ -4,17 +4,18 @@ use Rattle.std.proofs.lemmas.List.{same_from_push}
 use Rattle.answers.specs.declared.StatusWord.{StatusWord}
 use Rattle.answers.specs.declared.StatusWord.TheVariants as sw
 use Rattle.answers.specs.Replies.{Reply, reply_bytes}
-use Rattle.apdu.specs.declared.Instruction.{Instruction}
-use Rattle.apdu.specs.declared.Instruction.TheVariants.{Manage}
+use Rattle.apdu.specs.declared.known.Instruction.{Instruction}
+use Rattle.apdu.specs.declared.known.Instruction.TheVariants.{Manage}
 use Rattle.apdu.specs.declared.Management.{Management}
-use Rattle.apdu.specs.Apdu.{Apdu, apdu, instruction_of, known_class, owns}
-use Rattle.card.specs.Admitting.{admitted, is_terminated, in_own_class}
-use Rattle.card.specs.declared.channel.Channel.{Channel}
-use Rattle.card.specs.declared.channel.Channel.TheVariants.{Closed, Waiting, Open}
-use Rattle.card.specs.Channels.{plain_allowed}
-use Rattle.card.specs.Inside.{managed, obeyed}
-use Rattle.card.specs.Models.{Model, model}
-use Rattle.card.specs.Taking.{performed, taken, responded}
+use Rattle.apdu.specs.Apdu.{Apdu, apdu, known_class}
+use Rattle.apdu.specs.Known.{instruction_of, owns}
+use Rattle.manager.specs.Admitting.{admitted, is_terminated, in_own_class}
+use Rattle.manager.specs.declared.channel.Channel.{Channel}
+use Rattle.manager.specs.declared.channel.Channel.TheVariants.{Closed, Waiting, Open}
+use Rattle.manager.specs.Channels.{plain_allowed}
+use Rattle.manager.specs.Inside.{managed, obeyed}
+use Rattle.manager.specs.Models.{Model, model}
+use Rattle.manager.specs.Taking.{performed, taken, responded}
 use Rattle.challenge.specs.Draws.{Challenges}
 use Rattle.cipher.specs.Blocks.{Algorithm}
 use Rattle.contents.specs.Held.{Held}

@@ -4,12 +4,12 @@ use Rattle.answers.specs.declared.StatusWord.TheVariants as sw
 use Rattle.answers.specs.Replies.{only, reply_bytes}
 use Rattle.apdu.specs.declared.Management.{Management}
 use Rattle.apdu.specs.Apdu.{Apdu, changing}
-use Rattle.card.specs.Admitting.{is_terminated}
-use Rattle.card.specs.declared.channel.Channel.{Channel}
-use Rattle.card.specs.declared.channel.Channel.TheVariants.{Closed, Waiting, Open}
-use Rattle.card.specs.Channels.{plain_allowed}
-use Rattle.card.specs.Inside.{managed, obeyed, kept_open}
-use Rattle.card.specs.Models.{model}
+use Rattle.manager.specs.Admitting.{is_terminated}
+use Rattle.manager.specs.declared.channel.Channel.{Channel}
+use Rattle.manager.specs.declared.channel.Channel.TheVariants.{Closed, Waiting, Open}
+use Rattle.manager.specs.Channels.{plain_allowed}
+use Rattle.manager.specs.Inside.{managed, obeyed, kept_open}
+use Rattle.manager.specs.Models.{model}
 use Rattle.challenge.specs.Draws.{Challenges}
 use Rattle.cipher.specs.Blocks.{Algorithm}
 use Rattle.contents.specs.Held.{Held}

@@ -8,13 +8,13 @@ use Rattle.answers.specs.declared.StatusWord.TheVariants.{Success}
 use Rattle.answers.specs.Numbers.{status_bytes}
 use Rattle.answers.specs.Replies.{Reply, reply, only, reply_bytes}
 use Rattle.apdu.specs.Apdu.{Apdu}
-use Rattle.card.specs.declared.channel.Channel.{Channel}
-use Rattle.card.specs.declared.channel.Channel.TheVariants.{Closed, Waiting, Open}
-use Rattle.card.specs.declared.channel.Handshake.{Handshake}
-use Rattle.card.specs.Channels.{sized_channel, granted_level, waiting}
-use Rattle.card.specs.Models.{Model, model}
-use Rattle.card.specs.Opening.{keys_of, updated, begun, begun_with, authenticated, at_level, proved}
-use Rattle.card.specs.Replies.{update_data}
+use Rattle.manager.specs.declared.channel.Channel.{Channel}
+use Rattle.manager.specs.declared.channel.Channel.TheVariants.{Closed, Waiting, Open}
+use Rattle.manager.specs.declared.channel.Handshake.{Handshake}
+use Rattle.manager.specs.Channels.{sized_channel, granted_level, waiting}
+use Rattle.manager.specs.Models.{Model, model}
+use Rattle.manager.specs.Opening.{keys_of, updated, begun, begun_with, authenticated, at_level, proved}
+use Rattle.manager.specs.Replies.{update_data}
 use Rattle.challenge.specs.Draws.{Challenges}
 use Rattle.cipher.specs.Blocks.{Algorithm, zeros}
 use Rattle.contents.specs.declared.records.KeySet.{KeySet}

@@ -2,8 +2,8 @@
 use Rattle.std.proofs.Common.{◌≡◌, ℕ, List, [], ◌∷◌, ◌++◌, map, take, Some, None, Ok, Err, Option, Result, sym, refl, ap, ◌∙◌, subst, append_assoc}
 use Rattle.answers.specs.declared.Refusal.{Refusal}
 use Rattle.answers.specs.Replies.{reply_bytes}
-use Rattle.card.specs.Models.{Model, Fit}
-use Rattle.card.specs.Taking.{responded}
+use Rattle.manager.specs.Models.{Model, Fit}
+use Rattle.manager.specs.Taking.{responded}
 use Rattle.cipher.specs.Blocks.{Algorithm}
 use Rattle.terminal.specs.Sides.{Side, Outcome, update_command, wraps}
 use Rattle.runs.specs.Conversing.{Began, CarriedAs, Carried, events_if, opening_events, blank}

@@ -9,12 +9,13 @@ use Rattle.answers.specs.declared.StatusWord.TheVariants.{ConditionsNotSatisfied
 use Rattle.answers.specs.Areas.{fronted}
 use Rattle.answers.specs.Replies.{Reply, only, reply_bytes}
 use Rattle.apdu.specs.declared.Management.{Management}
-use Rattle.apdu.specs.Apdu.{Apdu, apdu, headed, with_field, management_of, instruction_of, known_class}
-use Rattle.card.specs.Admitting.{is_terminated, in_own_class}
-use Rattle.card.specs.declared.channel.Channel.TheVariants.{Open}
-use Rattle.card.specs.Inside.{kept_open}
-use Rattle.card.specs.Models.{Model}
-use Rattle.card.specs.Taking.{taken, performed, responded}
+use Rattle.apdu.specs.Apdu.{Apdu, apdu, headed, with_field, management_of, known_class}
+use Rattle.apdu.specs.Known.{instruction_of}
+use Rattle.manager.specs.Admitting.{is_terminated, in_own_class}
+use Rattle.manager.specs.declared.channel.Channel.TheVariants.{Open}
+use Rattle.manager.specs.Inside.{kept_open}
+use Rattle.manager.specs.Models.{Model}
+use Rattle.manager.specs.Taking.{taken, performed, responded}
 use Rattle.cipher.specs.Blocks.{Algorithm, Undoes}
 use Rattle.cipher.proofs.Xors.{small_take}
 use Rattle.contents.specs.Held.{Held}

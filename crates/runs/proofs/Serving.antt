@@ -12,21 +12,22 @@ use Rattle.answers.specs.declared.StatusWord.{StatusWord}
 use Rattle.answers.specs.declared.StatusWord.TheVariants.{Success, CryptogramRejected, WrongLength, SecurityNotSatisfied, ConditionsNotSatisfied, WrongParameters, NotFound, ClassUnknown}
 use Rattle.answers.specs.Numbers.{status_bytes}
 use Rattle.answers.specs.Replies.{Reply, only, reply_bytes}
-use Rattle.apdu.specs.declared.Instruction.{Instruction}
-use Rattle.apdu.specs.declared.Instruction.TheVariants.{Select, InitializeUpdate, ExternalAuthenticate, Manage}
+use Rattle.apdu.specs.declared.known.Instruction.{Instruction}
+use Rattle.apdu.specs.declared.known.Instruction.TheVariants.{Select, InitializeUpdate, ExternalAuthenticate, Manage}
 use Rattle.apdu.specs.declared.Management.{Management}
-use Rattle.apdu.specs.Apdu.{Apdu, apdu, headed, management_of, instruction_of, owns, known_class}
-use Rattle.card.specs.Admitting.{admitted, is_terminated, in_own_class}
-use Rattle.card.specs.declared.channel.Channel.{Channel}
-use Rattle.card.specs.declared.channel.Channel.TheVariants.{Closed, Waiting, Open}
-use Rattle.card.specs.declared.channel.Handshake.{Handshake}
-use Rattle.card.specs.Channels.{handshake, granted_level, plain_allowed, entered, used_up, waiting}
-use Rattle.card.specs.Inside.{kept_open, obeyed, managed}
-use Rattle.card.specs.Models.{Model, model, with_channel}
-use Rattle.card.specs.Opening.{keys_of, begun, begun_with, updated, authenticated, at_level, proved}
-use Rattle.card.specs.Replies.{update_data}
-use Rattle.card.specs.Selecting.{selected}
-use Rattle.card.specs.Taking.{ruled, performed, taken, responded}
+use Rattle.apdu.specs.Apdu.{Apdu, apdu, headed, management_of, known_class}
+use Rattle.apdu.specs.Known.{instruction_of, owns}
+use Rattle.manager.specs.Admitting.{admitted, is_terminated, in_own_class}
+use Rattle.manager.specs.declared.channel.Channel.{Channel}
+use Rattle.manager.specs.declared.channel.Channel.TheVariants.{Closed, Waiting, Open}
+use Rattle.manager.specs.declared.channel.Handshake.{Handshake}
+use Rattle.manager.specs.Channels.{handshake, granted_level, plain_allowed, entered, used_up, waiting}
+use Rattle.manager.specs.Inside.{kept_open, obeyed, managed}
+use Rattle.manager.specs.Models.{Model, model, with_channel}
+use Rattle.manager.specs.Opening.{keys_of, begun, begun_with, updated, authenticated, at_level, proved}
+use Rattle.manager.specs.Replies.{update_data}
+use Rattle.manager.specs.Selecting.{selected}
+use Rattle.manager.specs.Taking.{ruled, performed, taken, responded}
 use Rattle.challenge.specs.Draws.{Challenges}
 use Rattle.cipher.specs.Blocks.{Algorithm, Direction, Bytes, Undoes, zeros}
 use Rattle.cipher.proofs.Chains.{bytes_mac, small_zeros}

@@ -4,14 +4,14 @@ use Rattle.std.specs.Str.{bytes_eq}
 use Rattle.std.proofs.lemmas.List.Sums.{fold_push}
 use Rattle.std.proofs.lemmas.Bool.{and_parts}
 use Rattle.answers.specs.declared.StatusWord.{StatusWord}
-use Rattle.apdu.specs.declared.Instruction.{Instruction}
-use Rattle.apdu.specs.declared.Instruction.TheVariants.{Select, InitializeUpdate, ExternalAuthenticate, Manage}
+use Rattle.apdu.specs.declared.known.Instruction.{Instruction}
+use Rattle.apdu.specs.declared.known.Instruction.TheVariants.{Select, InitializeUpdate, ExternalAuthenticate, Manage}
 use Rattle.apdu.specs.declared.Management.{Management}
 use Rattle.apdu.specs.Apdu.{Apdu, apdu}
-use Rattle.card.specs.Admitting.{admitted, is_terminated}
-use Rattle.card.specs.Channels.{granted_level, plain_allowed}
-use Rattle.card.specs.Models.{Model}
-use Rattle.card.specs.Opening.{keys_of}
+use Rattle.manager.specs.Admitting.{admitted, is_terminated}
+use Rattle.manager.specs.Channels.{granted_level, plain_allowed}
+use Rattle.manager.specs.Models.{Model}
+use Rattle.manager.specs.Opening.{keys_of}
 use Rattle.cipher.specs.Blocks.{Algorithm}
 use Rattle.contents.specs.declared.records.KeySet.{KeySet}
 use Rattle.contents.specs.Held.{Held}

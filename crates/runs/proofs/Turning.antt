@@ -5,9 +5,9 @@ use Rattle.std.proofs.lemmas.List.{take_at, length-append, map_push, map_more}
 use Rattle.answers.specs.declared.Refusal.{Refusal}
 use Rattle.answers.specs.Areas.{fronted}
 use Rattle.answers.specs.Replies.{reply_bytes}
-use Rattle.card.specs.Cards.{Processed, processed}
-use Rattle.card.specs.Models.{Model, Fit}
-use Rattle.card.specs.Taking.{responded}
+use Rattle.manager.specs.Cards.{Processed, processed}
+use Rattle.manager.specs.Models.{Model, Fit}
+use Rattle.manager.specs.Taking.{responded}
 use Rattle.cipher.specs.Blocks.{Algorithm}
 use Rattle.runs.specs.declared.turns.Turn.{Turn}
 use Rattle.runs.specs.Events.{Event, Input, command, input_of}

@@ -5,9 +5,9 @@ use Rattle.std.specs.declared.alloc.Global.{Global}
 use Rattle.answers.specs.declared.Refusal.{Refusal}
 use Rattle.answers.specs.declared.StatusWord.TheVariants.{Success}
 use Rattle.answers.specs.Numbers.{refusal_number, status_bytes}
-use Rattle.card.specs.Admitting.{is_terminated}
-use Rattle.card.specs.declared.channel.Channel.TheVariants.{Closed}
-use Rattle.card.specs.Models.{Model, model}
+use Rattle.manager.specs.Admitting.{is_terminated}
+use Rattle.manager.specs.declared.channel.Channel.TheVariants.{Closed}
+use Rattle.manager.specs.Models.{Model, model}
 use Rattle.challenge.specs.Draws.{Challenges}
 use Rattle.cipher.specs.Blocks.{Algorithm}
 use Rattle.contents.specs.declared.records.KeySet.{KeySet}

@@ -2,13 +2,13 @@
 -- ended it since.
 use Rattle.std.specs.Prelude.{◌≡◌, ℕ, true, false, List, [], ◌∷◌, ◌++◌, take, drop, Some, None, Ok, Err, Option, Result}
 use Rattle.answers.specs.declared.StatusWord.{StatusWord}
-use Rattle.apdu.specs.declared.Instruction.{Instruction}
-use Rattle.apdu.specs.declared.Instruction.TheVariants.{InitializeUpdate, ExternalAuthenticate, Manage}
+use Rattle.apdu.specs.declared.known.Instruction.{Instruction}
+use Rattle.apdu.specs.declared.known.Instruction.TheVariants.{InitializeUpdate, ExternalAuthenticate, Manage}
 use Rattle.apdu.specs.declared.Management.{Management}
 use Rattle.apdu.specs.Apdu.{Apdu, apdu}
-use Rattle.card.specs.Admitting.{admitted, is_terminated}
-use Rattle.card.specs.Channels.{granted_level, plain_allowed}
-use Rattle.card.specs.Opening.{keys_of}
+use Rattle.manager.specs.Admitting.{admitted, is_terminated}
+use Rattle.manager.specs.Channels.{granted_level, plain_allowed}
+use Rattle.manager.specs.Opening.{keys_of}
 use Rattle.cipher.specs.Blocks.{Algorithm}
 use Rattle.contents.specs.declared.life.CardState.{CardState}
 use Rattle.contents.specs.declared.records.KeySet.{KeySet}

@@ -1,17 +1,18 @@
 -- What holds of every run.
 use Rattle.std.specs.Prelude.{◌≡◌, ℕ, Bool, true, false, cond, ◌&&◌, List, [], ◌∷◌, ◌++◌, Some, None, Ok, Err, fold, Option, Result}
 use Rattle.answers.specs.declared.StatusWord.{StatusWord}
-use Rattle.apdu.specs.declared.Instruction.{Instruction}
-use Rattle.apdu.specs.declared.Instruction.TheVariants.{Select, InitializeUpdate, ExternalAuthenticate, Manage}
+use Rattle.apdu.specs.declared.known.Instruction.{Instruction}
+use Rattle.apdu.specs.declared.known.Instruction.TheVariants.{Select, InitializeUpdate, ExternalAuthenticate, Manage}
 use Rattle.apdu.specs.declared.Management.{Management}
-use Rattle.apdu.specs.Apdu.{Apdu, apdu, instruction_of, changing}
-use Rattle.card.specs.Admitting.{admitted}
-use Rattle.card.specs.declared.channel.Handshake.{Handshake}
-use Rattle.card.specs.declared.channel.Channel.{Channel}
-use Rattle.card.specs.declared.channel.Channel.TheVariants.{Closed, Waiting, Open}
-use Rattle.card.specs.Channels.{plain_allowed}
-use Rattle.card.specs.Models.{Model}
-use Rattle.card.specs.Opening.{keys_of}
+use Rattle.apdu.specs.Apdu.{Apdu, apdu, changing}
+use Rattle.apdu.specs.Known.{instruction_of}
+use Rattle.manager.specs.Admitting.{admitted}
+use Rattle.manager.specs.declared.channel.Handshake.{Handshake}
+use Rattle.manager.specs.declared.channel.Channel.{Channel}
+use Rattle.manager.specs.declared.channel.Channel.TheVariants.{Closed, Waiting, Open}
+use Rattle.manager.specs.Channels.{plain_allowed}
+use Rattle.manager.specs.Models.{Model}
+use Rattle.manager.specs.Opening.{keys_of}
 use Rattle.cipher.specs.Blocks.{Algorithm}
 use Rattle.contents.specs.declared.records.KeySet.{KeySet}
 use Rattle.contents.specs.Held.{Held}

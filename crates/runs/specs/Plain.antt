@@ -3,13 +3,13 @@
 use Rattle.std.specs.Prelude.{ℕ, Bool, cond, ◌&&◌, List, [], ◌∷◌, ◌++◌, take, drop, Some, None, Ok, Err, fold, Option, Result}
 use Rattle.std.specs.Str.{bytes_eq}
 use Rattle.answers.specs.declared.StatusWord.{StatusWord}
-use Rattle.apdu.specs.declared.Instruction.{Instruction}
-use Rattle.apdu.specs.declared.Instruction.TheVariants.{Select, InitializeUpdate, ExternalAuthenticate, Manage}
+use Rattle.apdu.specs.declared.known.Instruction.{Instruction}
+use Rattle.apdu.specs.declared.known.Instruction.TheVariants.{Select, InitializeUpdate, ExternalAuthenticate, Manage}
 use Rattle.apdu.specs.declared.Management.{Management}
 use Rattle.apdu.specs.Apdu.{Apdu, apdu, changing}
-use Rattle.card.specs.Admitting.{admitted, is_terminated}
-use Rattle.card.specs.Channels.{granted_level, plain_allowed}
-use Rattle.card.specs.Opening.{keys_of}
+use Rattle.manager.specs.Admitting.{admitted, is_terminated}
+use Rattle.manager.specs.Channels.{granted_level, plain_allowed}
+use Rattle.manager.specs.Opening.{keys_of}
 use Rattle.cipher.specs.Blocks.{Algorithm, Direction, zeros}
 use Rattle.contents.specs.declared.records.KeySet.{KeySet}
 use Rattle.contents.specs.Held.{Held}

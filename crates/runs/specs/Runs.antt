@@ -1,8 +1,8 @@
 -- A card's run: from a model, through events, to a model.
 use Rattle.std.specs.Prelude.{◌≡◌, List, [], ◌∷◌, ◌++◌}
 use Rattle.answers.specs.Replies.{reply_bytes}
-use Rattle.card.specs.Models.{Model, Fit, after_reset}
-use Rattle.card.specs.Taking.{responded}
+use Rattle.manager.specs.Models.{Model, Fit, after_reset}
+use Rattle.manager.specs.Taking.{responded}
 use Rattle.cipher.specs.Blocks.{Algorithm}
 use Rattle.runs.specs.Events.{Event, reset, answered}
 

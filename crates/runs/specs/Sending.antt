@@ -4,10 +4,10 @@ use Rattle.std.specs.Borrow.{Bor}
 use Rattle.answers.specs.declared.Refusal.{Refusal}
 use Rattle.answers.specs.Replies.{reply_bytes}
 use Rattle.apdu.specs.Apdu.{Apdu, apdu, management_of}
-use Rattle.card.specs.Admitting.{is_terminated}
-use Rattle.card.specs.declared.channel.Channel.TheVariants.{Open}
-use Rattle.card.specs.Models.{Model}
-use Rattle.card.specs.Taking.{responded}
+use Rattle.manager.specs.Admitting.{is_terminated}
+use Rattle.manager.specs.declared.channel.Channel.TheVariants.{Open}
+use Rattle.manager.specs.Models.{Model}
+use Rattle.manager.specs.Taking.{responded}
 use Rattle.cipher.specs.Blocks.{Algorithm}
 use Rattle.contents.specs.Held.{Held}
 use Rattle.scp01.specs.declared.Level.{Level}

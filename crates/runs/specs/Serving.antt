@@ -6,12 +6,12 @@ use Rattle.answers.specs.Numbers.{status_bytes}
 use Rattle.answers.specs.Replies.{Reply, reply, reply_bytes}
 use Rattle.apdu.specs.declared.Management.{Management}
 use Rattle.apdu.specs.Apdu.{Apdu, apdu, management_of}
-use Rattle.card.specs.Admitting.{is_terminated}
-use Rattle.card.specs.declared.channel.Channel.TheVariants.{Waiting}
-use Rattle.card.specs.Channels.{handshake}
-use Rattle.card.specs.Models.{Model, model}
-use Rattle.card.specs.Opening.{keys_of}
-use Rattle.card.specs.Replies.{update_data}
+use Rattle.manager.specs.Admitting.{is_terminated}
+use Rattle.manager.specs.declared.channel.Channel.TheVariants.{Waiting}
+use Rattle.manager.specs.Channels.{handshake}
+use Rattle.manager.specs.Models.{Model, model}
+use Rattle.manager.specs.Opening.{keys_of}
+use Rattle.manager.specs.Replies.{update_data}
 use Rattle.challenge.specs.Draws.{Challenges}
 use Rattle.cipher.specs.Blocks.{Algorithm, zeros}
 use Rattle.contents.specs.declared.records.KeySet.{KeySet}

@@ -1,8 +1,8 @@
 -- Turns and exchanges as lists of bytes, and what one turn does.
 use Rattle.std.specs.Prelude.{◌≡◌, ℕ, ◌-◌, ◌≤◌, List, map, length, take, vec_items}
 use Rattle.answers.specs.Replies.{reply_bytes}
-use Rattle.card.specs.Models.{Model, Fit}
-use Rattle.card.specs.Taking.{responded}
+use Rattle.manager.specs.Models.{Model, Fit}
+use Rattle.manager.specs.Taking.{responded}
 use Rattle.cipher.specs.Blocks.{Algorithm}
 use Rattle.runs.specs.declared.turns.Turn.{Turn}
 use Rattle.runs.specs.declared.turns.Turn.TheVariants as turn

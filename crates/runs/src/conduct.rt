@@ -1,6 +1,6 @@
 // Conducting a card: one is made of an image, turns are handed in, and then a terminal has a channel with it.
 ghost use Rattle.std.specs.Prelude.{◌≡◌, true, map, is_some, IfOk, MatchResult};
-ghost use Rattle.card.specs.Cards.{view};
+ghost use Rattle.manager.specs.Cards.{view};
 ghost use Rattle.cipher.specs.Blocks.{algorithm};
 ghost use Rattle.terminal.specs.Sides.{side};
 ghost use Rattle.runs.specs.Conducting.{trouble_number, said_in, said_events, Conversed, Conducted, Troubled};
@@ -14,11 +14,11 @@ use crate::play::play;
 use crate::serve::serve;
 use crate::turns::{Outcome, Served, Turn};
 use answers::Refusal;
-use card::card::Card;
-use card::card::make::Unmade;
 use challenge::Source;
 use cipher::Cipher;
 use contents::records::KeySet;
+use manager::card::Card;
+use manager::card::make::Unmade;
 use scp01::Level;
 use std::alloc::{AllocError, Global};
 use terminal::Terminal;

@@ -2,7 +2,7 @@
 ghost use Rattle.std.specs.Prelude.{◌≡◌, length, IfOk};
 ghost use Rattle.std.specs.Option.{option_map};
 ghost use Rattle.std.specs.Str.{bytes_eq};
-ghost use Rattle.card.specs.Cards.{view};
+ghost use Rattle.manager.specs.Cards.{view};
 ghost use Rattle.cipher.specs.Blocks.{algorithm, Bytes};
 ghost use Rattle.terminal.specs.Sides.{side};
 ghost use Rattle.runs.specs.Conversing.{Began, Carried, Opens, is_answered, opening_events, opening_in, showing};
@@ -12,10 +12,10 @@ ghost use Rattle.runs.specs.Turns.{exchanged};
 
 use crate::play::hand_in;
 use crate::turns::Exchange;
-use card::card::Card;
 use challenge::Source;
 use cipher::Cipher;
 use contents::records::KeySet;
+use manager::card::Card;
 use scp01::Level;
 use std::alloc::{AllocError, Global};
 use terminal::Terminal;

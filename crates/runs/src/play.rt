@@ -1,14 +1,14 @@
 // Handing in turns, one by one.
 ghost use Rattle.std.specs.Prelude.{◌≡◌, map, IfOk};
-ghost use Rattle.card.specs.Cards.{view};
-ghost use Rattle.card.specs.Models.{Fit};
+ghost use Rattle.manager.specs.Cards.{view};
+ghost use Rattle.manager.specs.Models.{Fit};
 ghost use Rattle.cipher.specs.Blocks.{algorithm};
 ghost use Rattle.runs.specs.Turns.{input_in, event_in, exchanged, Handed, HandedIn, Turned, Played};
 
 use crate::turns::{Exchange, Outcome, Turn};
-use card::card::Card;
 use challenge::Source;
 use cipher::Cipher;
+use manager::card::Card;
 use std::alloc::{AllocError, Global};
 
 // Hands in a command, with a work area of its own; the answer stands at the front of a lent area, and its length is returned.

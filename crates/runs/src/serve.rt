@@ -1,7 +1,7 @@
 // Sending bare commands inside a channel.
 ghost use Rattle.std.specs.Prelude.{◌≡◌, map, length, IfOk};
 ghost use Rattle.std.specs.Option.{option_map};
-ghost use Rattle.card.specs.Cards.{view};
+ghost use Rattle.manager.specs.Cards.{view};
 ghost use Rattle.cipher.specs.Blocks.{algorithm, Bytes};
 ghost use Rattle.terminal.specs.Sides.{side};
 ghost use Rattle.runs.specs.Runs.{Onward};
@@ -10,9 +10,9 @@ ghost use Rattle.runs.specs.Sending.{bare_in, served_in, sending_event, Sent, An
 use crate::converse::of_bytes;
 use crate::play::hand_in;
 use crate::turns::Served;
-use card::card::Card;
 use challenge::Source;
 use cipher::Cipher;
+use manager::card::Card;
 use std::alloc::{AllocError, Global};
 use terminal::Terminal;
 

@@ -8,9 +8,9 @@ mod scene;
 mod telling;
 mod words;
 
-use card::card::Card;
 use challenge::recorded::Recorded;
 use contents::records::KeySet;
+use manager::card::Card;
 use runs::conduct::{Report, Talk, conduct};
 use runs::turns::Turn;
 use scp01::Level;

@@ -6,11 +6,9 @@ mod rows;
 
 use anyhow::anyhow;
 use cipher::Cipher;
-use present::Present;
 use rows::{Verdict, judged};
 use std::{env, fs, io};
 use tripledes::TripleDes;
-use xtea::Xtea;
 
 // Names a line that does not agree; answers whether it agrees.
 fn reported(rt: &HostRuntime, name: &str, number: usize, verdict: Verdict) -> io::Result<bool> {
@@ -55,8 +53,6 @@ fn run<C: Cipher>(rt: &HostRuntime, name: &str) -> io::Result<bool> {
 fn run_named(rt: &HostRuntime, name: &str) -> io::Result<bool> {
     match name {
         "tripledes.txt" => run::<TripleDes>(rt, name),
-        "present128.txt" | "present128_more.txt" => run::<Present>(rt, name),
-        "xtea.txt" => run::<Xtea>(rt, name),
         _ => {
             println!(rt; "{name}: no cipher has vectors of this name")?;
             Ok(false)

@@ -1,11 +1,11 @@
 // Handing in a command.
-ghost use Rattle.std.specs.Prelude.{◌≡◌, ℕ, ◌<◌, List, ◌++◌, length, replicate};
+ghost use Rattle.std.specs.Prelude.{◌≡◌, ℕ, List, ◌++◌, length, replicate};
 ghost use Rattle.cipher.specs.Blocks.{algorithm};
 ghost use Rattle.contents.specs.Contents.{held};
 ghost use Rattle.apdu.specs.Apdu.{meaning};
 ghost use Rattle.card.specs.Admitting.{admitted};
 ghost use Rattle.card.specs.Cards.{view, processed, Processed};
-ghost use Rattle.card.specs.Models.{Did, Fit, after_reset};
+ghost use Rattle.card.specs.Models.{Did, after_reset};
 ghost use Rattle.card.specs.Taking.{performed, responded, ruled};
 
 use crate::admit::admitted;
@@ -26,9 +26,7 @@ impl<C: Cipher, S: Source> Card<C, S> {
         handshake: Option<Handshake>,
         instruction: Instruction,
         command: Command,
-        work: &mut [u8],
     ) -> Answer
-        requires { (length work.old ≡ 256) × (length command.field.now < 256) }
         ensures did { Did (ruled (algorithm C.Cipher.enc C.Cipher.dec C.Cipher.identifier) (view S.Source.coming self.old) handshake instruction (meaning command.entry)) (view S.Source.coming self.new) result }
         ensures whole { S.Source.whole self.new.source ≡ S.Source.whole self.old.source }
     {
@@ -36,12 +34,10 @@ impl<C: Cipher, S: Source> Card<C, S> {
             Instruction::Select => select(&self.contents, command),
             Instruction::InitializeUpdate => self.initialize_update(command),
             Instruction::ExternalAuthenticate => self.external_authenticate(handshake, command),
-            Instruction::Manage(management) => self.manage(management, command, work),
         }
     }
 
-    fn perform(&mut self, command: Command, work: &mut [u8]) -> Answer
-        requires { (length work.old ≡ 256) × (length command.field.now < 256) }
+    fn perform(&mut self, command: Command) -> Answer
         ensures did { Did (performed (algorithm C.Cipher.enc C.Cipher.dec C.Cipher.identifier) (view S.Source.coming self.old) (admitted (held self.old.contents).state (meaning command.entry)) (meaning command.entry)) (view S.Source.coming self.new) result }
         ensures whole { S.Source.whole self.new.source ≡ S.Source.whole self.old.source }
     {
@@ -49,22 +45,21 @@ impl<C: Cipher, S: Source> Card<C, S> {
             Err(status) => Answer::Status(status),
             Ok(instruction) => {
                 let handshake = self.channel.enter(instruction);
-                self.rule(handshake, instruction, command, work)
+                self.rule(handshake, instruction, command)
             }
         }
     }
 
     // The answer to a command; the work bytes are 00 when it ends.
     fn respond(&mut self, command: &[u8], work: &mut [u8]) -> Answer
-        requires { length work.old ≡ 256 }
         ensures did { Did (responded (algorithm C.Cipher.enc C.Cipher.dec C.Cipher.identifier) (view S.Source.coming self.old) command.now) (view S.Source.coming self.new) result }
         ensures whole { S.Source.whole self.new.source ≡ S.Source.whole self.old.source }
         ensures work { work.new ≡ replicate (length work.old) 0 }
     {
-        let guard = Wipe { bytes: work };
+        let _guard = Wipe { bytes: work };
         match Command::read(command) {
             None => Answer::Status(StatusWord::WrongLength),
-            Some(command) => self.perform(command, guard.bytes),
+            Some(command) => self.perform(command),
         }
     }
 
@@ -79,7 +74,6 @@ impl<C: Cipher, S: Source> Card<C, S> {
     ) -> Result<usize, Refusal>
         ensures processed { Processed result (view S.Source.coming self.new) answer.new work.new (processed (algorithm C.Cipher.enc C.Cipher.dec C.Cipher.identifier) (view S.Source.coming self.old) command.now answer.old work.old) }
         ensures whole { S.Source.whole self.new.source ≡ S.Source.whole self.old.source }
-        ensures fit { Fit (view S.Source.coming self.new) }
     {
         if answer.len() < 258 || work.len() < 256 {
             return Err(Refusal::AreaTooShort);
@@ -92,7 +86,6 @@ impl<C: Cipher, S: Source> Card<C, S> {
     pub fn reset(&mut self)
         ensures model { view S.Source.coming self.new ≡ after_reset (view S.Source.coming self.old) }
         ensures whole { S.Source.whole self.new.source ≡ S.Source.whole self.old.source }
-        ensures fit { Fit (view S.Source.coming self.new) }
     {
         self.channel = Channel::Closed;
     }

@@ -1,6 +1,6 @@
 use Rattle.std.proofs.Common.{map, vec_items, ap, ◌∙◌}
 use Rattle.cipher.specs.Blocks.{algorithm}
-use Rattle.card.specs.Cards.{view}
+use Rattle.manager.specs.Cards.{view}
 use Rattle.terminal.specs.Sides.{side}
 use Rattle.runs.specs.Conducting.{said_in}
 use Rattle.runs.specs.Turns.{input_in, event_in}

@@ -1,6 +1,6 @@
 use Rattle.std.proofs.Common.{◌≡◌, true, false, map, vec_items, sym, ◌∙◌, rules}
 use Rattle.cipher.specs.Blocks.{algorithm}
-use Rattle.card.specs.Cards.{view}
+use Rattle.manager.specs.Cards.{view}
 use Rattle.terminal.specs.Sides.{side}
 use Rattle.runs.specs.Conversing.{opening_in, opening_events}
 use Rattle.runs.specs.Sending.{served_in, sending_event}

@@ -1,6 +1,6 @@
 use Rattle.std.proofs.Common.{◌≡◌, Ok, ap, arith}
 use Rattle.cipher.specs.Blocks.{algorithm}
-use Rattle.card.specs.Cards.{view}
+use Rattle.manager.specs.Cards.{view}
 use Rattle.terminal.specs.Sides.{side, Outcome}
 use Rattle.runs.specs.Conversing.{blank, showing}
 use Rattle.runs.specs.Turns.{exchanged}

@@ -1,8 +1,8 @@
 use Rattle.std.proofs.Common.{◌≡◌, ℕ, ◌<◌, List, get_or, ap, ◌∙◌, subst, rules}
 use Rattle.std.specs.Option.{option_map}
 use Rattle.cipher.specs.Blocks.{Bytes, Undoes, algorithm}
-use Rattle.card.specs.Cards.{view}
-use Rattle.card.specs.Models.{Fit}
+use Rattle.manager.specs.Cards.{view}
+use Rattle.manager.specs.Models.{Fit}
 use Rattle.terminal.specs.Sides.{side}
 use Rattle.runs.specs.Conversing.{Carried, showing}
 use Rattle.runs.specs.Turns.{exchanged}

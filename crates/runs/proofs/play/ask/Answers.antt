@@ -1,6 +1,6 @@
 use Rattle.std.proofs.Common.{◌≤◌, length, replicate, lit≤, rules}
 use Rattle.cipher.specs.Blocks.{algorithm}
-use Rattle.card.specs.Cards.{view}
+use Rattle.manager.specs.Cards.{view}
 use Rattle.runs.proofs.Turning.{handed, never_cramped}
 use Rattle.runs.proofs.play.ask.Goals as goal
 

@@ -2,7 +2,7 @@ use Rattle.std.proofs.Common.{◌≡◌, ℕ, List, ◌++◌, map, is_ok, vec_it
 use Rattle.std.specs.Option.{option_map}
 use Rattle.std.proofs.ResultArms.{chosen}
 use Rattle.cipher.specs.Blocks.{algorithm, Undoes}
-use Rattle.card.specs.Cards.{view}
+use Rattle.manager.specs.Cards.{view}
 use Rattle.terminal.specs.Sides.{side}
 use Rattle.runs.specs.Sending.{bare_in, served_in, Answers}
 use Rattle.runs.proofs.Reaching.{noted_as, onward_start, sent_onward}

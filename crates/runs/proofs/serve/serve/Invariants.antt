@@ -1,5 +1,5 @@
 use Rattle.std.proofs.Common.{◌≡◌, ◌≤◌, map, length, take, vec_items}
-use Rattle.card.specs.Cards.{view}
+use Rattle.manager.specs.Cards.{view}
 use Rattle.cipher.specs.Blocks.{algorithm}
 use Rattle.terminal.specs.Sides.{side}
 use Rattle.runs.specs.Runs.{Onward}

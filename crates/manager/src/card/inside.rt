@@ -4,11 +4,11 @@ ghost use Rattle.apdu.specs.Apdu.{meaning};
 ghost use Rattle.cipher.specs.Blocks.{algorithm};
 ghost use Rattle.contents.specs.Contents.{held};
 ghost use Rattle.scp01.specs.Inside.{unwrapped_from};
-ghost use Rattle.card.specs.declared.channel.Channel.TheVariants.{Closed};
-ghost use Rattle.card.specs.Cards.{view};
-ghost use Rattle.card.specs.Channels.{plain_allowed};
-ghost use Rattle.card.specs.Inside.{kept_open, obeyed, managed};
-ghost use Rattle.card.specs.Models.{Did};
+ghost use Rattle.manager.specs.declared.channel.Channel.TheVariants.{Closed};
+ghost use Rattle.manager.specs.Cards.{view};
+ghost use Rattle.manager.specs.Channels.{plain_allowed};
+ghost use Rattle.manager.specs.Inside.{kept_open, obeyed, managed};
+ghost use Rattle.manager.specs.Models.{Did};
 
 use crate::admit::is_terminated;
 use crate::answer::Answer;

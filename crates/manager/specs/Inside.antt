@@ -10,11 +10,11 @@ use Rattle.rules.specs.Own.{own_rule}
 use Rattle.scp01.specs.declared.Session.{Session}
 use Rattle.scp01.specs.Inside.{unwrapped}
 use Rattle.scp01.specs.Levels.{session}
-use Rattle.card.specs.declared.channel.Channel.{Channel}
-use Rattle.card.specs.declared.channel.Channel.TheVariants.{Closed, Waiting, Open}
-use Rattle.card.specs.Admitting.{is_terminated}
-use Rattle.card.specs.Channels.{plain_allowed}
-use Rattle.card.specs.Models.{Model, model, with_channel, stays}
+use Rattle.manager.specs.declared.channel.Channel.{Channel}
+use Rattle.manager.specs.declared.channel.Channel.TheVariants.{Closed, Waiting, Open}
+use Rattle.manager.specs.Admitting.{is_terminated}
+use Rattle.manager.specs.Channels.{plain_allowed}
+use Rattle.manager.specs.Models.{Model, model, with_channel, stays}
 
 -- the channel behind a command that was read: a TERMINATED card has none
 abbrev pub kept_open : CardState → Session → Channel

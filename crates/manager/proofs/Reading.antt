@@ -6,12 +6,12 @@ use Rattle.apdu.specs.Apdu.{Apdu}
 use Rattle.cipher.specs.Blocks.{Algorithm}
 use Rattle.scp01.specs.declared.Session.{Session}
 use Rattle.scp01.specs.Inside.{unwrapped}
-use Rattle.card.specs.declared.answer.Answer.{Answer}
-use Rattle.card.specs.declared.channel.Channel.{Channel}
-use Rattle.card.specs.declared.channel.Channel.TheVariants.{Closed, Open}
-use Rattle.card.specs.Channels.{plain_allowed}
-use Rattle.card.specs.Inside.{obeyed, managed}
-use Rattle.card.specs.Models.{Model, Did, with_channel}
+use Rattle.manager.specs.declared.answer.Answer.{Answer}
+use Rattle.manager.specs.declared.channel.Channel.{Channel}
+use Rattle.manager.specs.declared.channel.Channel.TheVariants.{Closed, Open}
+use Rattle.manager.specs.Channels.{plain_allowed}
+use Rattle.manager.specs.Inside.{obeyed, managed}
+use Rattle.manager.specs.Models.{Model, Did, with_channel}
 
 -- the rule sees nothing of the channel that the command came in
 closed_before : (cipher : Algorithm) (m : Model) (s : Session) (i : Management) (c : Apdu) (r : Option (List ℕ × List ℕ)) → obeyed cipher (with_channel m Closed) s i c r ≡ obeyed cipher m s i c r

@@ -3,10 +3,10 @@ use Rattle.apdu.specs.Apdu.{meaning}
 use Rattle.cipher.specs.Blocks.{algorithm}
 use Rattle.contents.specs.Contents.{held}
 use Rattle.scp01.proofs.Calls.{unwrapped_some}
-use Rattle.card.specs.Cards.{view}
-use Rattle.card.specs.Channels.{plain_allowed}
-use Rattle.card.proofs.Reading.{managed_read}
-use Rattle.card.proofs.card.Card.manage.Goals as goal
+use Rattle.manager.specs.Cards.{view}
+use Rattle.manager.specs.Channels.{plain_allowed}
+use Rattle.manager.proofs.Reading.{managed_read}
+use Rattle.manager.proofs.card.Card.manage.Goals as goal
 
 pub returns : goal.returns
 returns g c =

@@ -1,0 +1,3 @@
+mod Texts
+mod Handing
+mod Reading

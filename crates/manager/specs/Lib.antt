@@ -1,0 +1,10 @@
+pub mod Replies
+pub mod Admitting
+pub mod Channels
+pub mod Selecting
+pub mod Models
+pub mod Opening
+pub mod Inside
+pub mod Taking
+pub mod Cards
+pub mod Making

@@ -1,0 +1,15 @@
+// The guard over the work area: whatever is written there is gone when it ends.
+ghost use Rattle.std.specs.Prelude.{◌≡◌, length, replicate};
+
+pub(crate) struct Wipe<'a> {
+    pub(crate) bytes: &'a mut [u8],
+}
+
+impl Drop for Wipe<'_> {
+    fn drop(self)
+        ensures { self.exit.0.now ≡ replicate (length self.entry.bytes.now) 0 }
+    {
+        self.bytes.fill(0);
+        let Wipe { bytes: _ } = self;
+    }
+}
