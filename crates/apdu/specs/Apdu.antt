@@ -1,8 +1,9 @@
 -- The form of a command, and the instructions that a card knows with the classes in which they are given.
 use Rattle.std.specs.Prelude.{ℕ, ◌+◌, Bool, true, false, cond, ◌||◌, List, [], length, take, drop, Some, None, Option, ◌==◌, nat_lt, slice_index}
+use Rattle.std.specs.Option.{option_map}
 use Rattle.apdu.specs.declared.Command.{Command}
 use Rattle.apdu.specs.declared.Instruction.{Instruction}
-use Rattle.apdu.specs.declared.Instruction.TheVariants.{Select, InitializeUpdate, ExternalAuthenticate}
+use Rattle.apdu.specs.declared.Instruction.TheVariants.{Select, InitializeUpdate, ExternalAuthenticate, Manage}
 use Rattle.apdu.specs.declared.Management.{Management}
 use Rattle.apdu.specs.declared.Management.TheVariants.{GetStatus, SetStatus, Install, Delete, PutKey}
 
@@ -55,18 +56,20 @@ changing Install = true
 changing Delete = true
 changing PutKey = true
 
-abbrev pub instruction_of : ℕ → Option Instruction
-instruction_of ins =
+-- the instruction that a byte names, where `named` are the card's commands inside a channel
+abbrev pub instruction_of : {M : Type 0} → (ℕ → Option M) → ℕ → Option (Instruction M)
+instruction_of named ins =
     cond (ins == 0xA4) (Some Select)
     (cond (ins == 0x50) (Some InitializeUpdate)
     (cond (ins == 0x82) (Some ExternalAuthenticate)
-    None))
+    (option_map Manage (named ins))))
 
 -- the class in which an instruction is given
-abbrev pub owns : Instruction → ℕ → Bool
+abbrev pub owns : {M : Type 0} → Instruction M → ℕ → Bool
 owns Select cla = cla == 0x00
 owns InitializeUpdate cla = cla == 0x80
 owns ExternalAuthenticate cla = cla == 0x84
+owns (Manage i) cla = cla == 0x80 || cla == 0x84
 
 abbrev pub known_class : ℕ → Bool
 known_class cla = cla == 0x00 || (cla == 0x80 || cla == 0x84)

@@ -1,2 +1,1 @@
 pub mod Apdu
-pub mod Known

@@ -1,11 +1,11 @@
 // Commands: how their bytes are read, and the instructions with the classes in which they are given.
 #![tactic(auto)]
 
-ghost use Rattle.std.specs.Prelude.{◌≡◌, ℕ, ◌+◌, ◌≤◌, length};
+ghost use Rattle.std.specs.Prelude.{◌≡◌, ℕ, ◌+◌, ◌≤◌, None, Option, Result, length};
 ghost use Rattle.std.specs.Option.{option_map};
+ghost use Rattle.std.specs.Result.{result_ok};
+ghost use Rattle.apdu.specs.declared.UnknownInstruction.{UnknownInstruction};
 ghost use Rattle.apdu.specs.Apdu.{meaning, headed, with_field, apdu, instruction_of, management_of, owns, known_class};
-
-pub mod known;
 
 // A well-formed command.
 #[derive(Clone, Copy)]
@@ -18,8 +18,20 @@ pub struct Command<'a> {
     pub le: Option<u8>,
 }
 
-// The commands that a card takes inside a channel.
-#[derive(Clone, Copy)]
+// A byte that names no instruction.
+#[derive(Clone, Copy, PartialEq, Eq, Debug)]
+pub struct UnknownInstruction;
+
+// A command that a card takes inside a channel, as its instruction byte names it.
+pub trait ChannelCommand: Copy + TryFrom<u8, Error = UnknownInstruction> {
+    // the command that a byte names
+    ghost named: { ℕ → Option Self };
+
+    ghost names: { (byte : ℕ) (r : Result Self UnknownInstruction) → Self.try_from_gives byte r → result_ok r ≡ named byte };
+}
+
+// The commands of the card manager inside a channel.
+#[derive(Clone, Copy, PartialEq, Eq, Debug)]
 pub enum Management {
     GetStatus,
     SetStatus,
@@ -28,26 +40,56 @@ pub enum Management {
     PutKey,
 }
 
-#[derive(Clone, Copy)]
-pub enum Instruction {
+impl TryFrom<u8> for Management {
+    type Error = UnknownInstruction;
+
+    ghost try_from_gives = { λ byte r. result_ok r ≡ management_of byte };
+
+    fn try_from(byte: u8) -> Result<Management, UnknownInstruction> {
+        match byte {
+            0xF2 => Ok(Management::GetStatus),
+            0xF0 => Ok(Management::SetStatus),
+            0xE6 => Ok(Management::Install),
+            0xE4 => Ok(Management::Delete),
+            0xD8 => Ok(Management::PutKey),
+            _ => Err(UnknownInstruction),
+        }
+    }
+}
+
+impl ChannelCommand for Management {
+    ghost named = { management_of };
+
+    ghost names = { λ byte r gives. gives };
+}
+
+// The commands of a card that takes none inside a channel: no byte names this one.
+#[derive(Clone, Copy, PartialEq, Eq, Debug)]
+pub struct NoCommand;
+
+impl TryFrom<u8> for NoCommand {
+    type Error = UnknownInstruction;
+
+    ghost try_from_gives = { λ byte r. result_ok r ≡ None };
+
+    fn try_from(_byte: u8) -> Result<NoCommand, UnknownInstruction> {
+        Err(UnknownInstruction)
+    }
+}
+
+impl ChannelCommand for NoCommand {
+    ghost named = { λ byte. None };
+
+    ghost names = { λ byte r gives. gives };
+}
+
+// The instructions of a card, where `M` are its commands inside a channel.
+#[derive(Clone, Copy, PartialEq, Eq, Debug)]
+pub enum Instruction<M> {
     Select,
     InitializeUpdate,
     ExternalAuthenticate,
-}
-
-impl Management {
-    pub fn from_byte(byte: u8) -> Option<Management>
-        ensures { result ≡ management_of byte }
-    {
-        match byte {
-            0xF2 => Some(Management::GetStatus),
-            0xF0 => Some(Management::SetStatus),
-            0xE6 => Some(Management::Install),
-            0xE4 => Some(Management::Delete),
-            0xD8 => Some(Management::PutKey),
-            _ => None,
-        }
-    }
+    Manage(M),
 }
 
 fn with_field(bytes: &[u8], lc: u8) -> Option<Command<'_>>
@@ -102,18 +144,22 @@ pub fn known_class(class: u8) -> bool
     class == 0x00 || class == 0x80 || class == 0x84
 }
 
-impl Instruction {
-    pub fn from_byte(byte: u8) -> Option<Instruction>
-        ensures { result ≡ instruction_of byte }
-    {
+impl<M: ChannelCommand> TryFrom<u8> for Instruction<M> {
+    type Error = UnknownInstruction;
+
+    ghost try_from_gives = { λ byte r. result_ok r ≡ instruction_of M.named byte };
+
+    fn try_from(byte: u8) -> Result<Instruction<M>, UnknownInstruction> {
         match byte {
-            0xA4 => Some(Instruction::Select),
-            0x50 => Some(Instruction::InitializeUpdate),
-            0x82 => Some(Instruction::ExternalAuthenticate),
-            _ => None,
+            0xA4 => Ok(Instruction::Select),
+            0x50 => Ok(Instruction::InitializeUpdate),
+            0x82 => Ok(Instruction::ExternalAuthenticate),
+            _ => M::try_from(byte).map(Instruction::Manage),
         }
     }
+}
 
+impl<M: ChannelCommand> Instruction<M> {
     // Whether the instruction is given in this class.
     pub fn owns(self, class: u8) -> bool
         ensures { result ≡ owns self class }
@@ -122,6 +168,7 @@ impl Instruction {
             Instruction::Select => class == 0x00,
             Instruction::InitializeUpdate => class == 0x80,
             Instruction::ExternalAuthenticate => class == 0x84,
+            Instruction::Manage(_) => class == 0x80 || class == 0x84,
         }
     }
 }

@@ -1,5 +1,5 @@
 -- The bytes of a number and the number of bytes undo each other.
-use Rattle.std.proofs.Common.{◌≡◌, ℕ, zero, suc, ◌+◌, ◌-◌, ◌*◌, ◌/◌, ◌%◌, ◌^◌, ◌<◌, ◌≤◌, List, [], ◌∷◌, length, get_or, sym, refl, ap, ◌∙◌, ap₂, arith}
+use Rattle.std.proofs.Common.{◌≡◌, ℕ, zero, suc, ◌+◌, ◌-◌, ◌*◌, ◌/◌, ◌%◌, ◌^◌, ◌<◌, ◌≤◌, List, [], ◌∷◌, length, get_or, sym, refl, ap, ◌∙◌, subst, ap₂, arith}
 use Rattle.std.proofs.lemmas.Nat.{mod-pow-add, field_of, shr_high, mod_low, mul-add-lt, pow-add}
 use Rattle.bits.specs.Octets.{value, octets}
 
@@ -60,3 +60,14 @@ octets_value (b ∷ bs) h =
     (sym (octets_low n n (b * 2 ^ (8 * n) + value bs) (omega arith))
     ∙ ap (octets n) (mod_low b (8 * n) (value bs) v)
     ∙ octets_value bs (λ i. h (suc i)))
+
+-- ---- the same at n bytes
+
+pub value_below : (n : ℕ) (bs : List ℕ) → length bs ≡ n → ((i : ℕ) → get_or bs i 0 < 256) → value bs < 2 ^ (8 * n)
+value_below n bs e h = subst (λ (k : ℕ). value bs < 2 ^ (8 * k)) e (value_lt bs h)
+
+pub octets_back : (n : ℕ) (bs : List ℕ) → length bs ≡ n → ((i : ℕ) → get_or bs i 0 < 256) → octets n (value bs) ≡ bs
+octets_back n bs e h = subst (λ (k : ℕ). octets k (value bs) ≡ bs) e (octets_value bs h)
+
+pub value_back : (x : ℕ) → x < 2 ^ 64 → value (octets 8 x) ≡ x
+value_back x h = let e = value_octets 8 x in omega arith

@@ -14,13 +14,14 @@ is_terminated Secured = false
 is_terminated CmLocked = false
 is_terminated Terminated = true
 
-abbrev pub in_own_class : ℕ → Option Instruction → Result Instruction StatusWord
+abbrev pub in_own_class : {M : Type 0} → ℕ → Option (Instruction M) → Result (Instruction M) StatusWord
 in_own_class cla None = Err InstructionUnknown
 in_own_class cla (Some i) = cond (owns i cla) (Ok i) (Err ClassUnknown)
 
--- the instruction of a well-formed command that a card in this state takes, or why it does not
-abbrev pub admitted : CardState → Apdu → Result Instruction StatusWord
-admitted state c =
+-- the instruction of a well-formed command that a card in this state takes, or why it does not; `named` are the card's commands
+-- inside a channel, by their instruction bytes
+abbrev pub admitted : {M : Type 0} → (ℕ → Option M) → CardState → Apdu → Result (Instruction M) StatusWord
+admitted named state c =
     cond (is_terminated state) (Err ConditionsNotSatisfied)
-    (cond (known_class c.class) (in_own_class c.class (instruction_of c.instruction))
+    (cond (known_class c.class) (in_own_class c.class (instruction_of named c.instruction))
     (Err ClassUnknown))

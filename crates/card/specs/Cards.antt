@@ -1,5 +1,5 @@
 -- A card behind its interface.
-use Rattle.std.specs.Prelude.{◌≡◌, ℕ, ◌<◌, Bool, cond, ◌||◌, List, ◌++◌, length, drop, replicate, Ok, Err, Result, nat_lt}
+use Rattle.std.specs.Prelude.{◌≡◌, ℕ, Bool, cond, ◌||◌, List, ◌++◌, length, drop, replicate, Ok, Err, Option, Result, nat_lt}
 use Rattle.answers.specs.declared.Refusal.{Refusal}
 use Rattle.answers.specs.declared.Refusal.TheVariants.{AreaTooShort}
 use Rattle.answers.specs.Areas.{fronted}
@@ -7,11 +7,12 @@ use Rattle.challenge.specs.Draws.{Challenges}
 use Rattle.cipher.specs.Blocks.{Algorithm}
 use Rattle.contents.specs.Contents.{held}
 use Rattle.card.specs.declared.card.Card.{Card}
+use Rattle.rules.specs.Own.{Rule}
 use Rattle.card.specs.Models.{Model, model}
 use Rattle.answers.specs.Replies.{Reply, reply_bytes}
 use Rattle.card.specs.Taking.{responded}
 
-abbrev pub view : {C S : Type 0} → (S → Challenges) → Card C S → Model
+abbrev pub view : {C S M : Type 0} → (S → Challenges) → Card C S M → Model
 view coming card = model (held card.contents) card.channel (coming card.source)
 
 -- whether the answer area has 258 bytes and the work area 256
@@ -33,6 +34,6 @@ abbrev pub answered : Model × Reply → List ℕ → List ℕ → Result ℕ Re
 answered out answer work = (Ok (length (reply_bytes out.1)), out.0, fronted answer (reply_bytes out.1), wiped work)
 
 -- refused with 6 where an area is too short, and then nothing moves
-abbrev pub processed : Algorithm → Model → List ℕ → List ℕ → List ℕ → Result ℕ Refusal × Model × List ℕ × List ℕ
-processed cipher m command answer work =
-    cond (cramped answer work) (Err AreaTooShort, m, answer, work) (answered (responded cipher m command) answer work)
+abbrev pub processed : {M : Type 0} → (ℕ → Option M) → Rule M → Algorithm → Model → List ℕ → List ℕ → List ℕ → Result ℕ Refusal × Model × List ℕ × List ℕ
+processed named rule cipher m command answer work =
+    cond (cramped answer work) (Err AreaTooShort, m, answer, work) (answered (responded named rule cipher m command) answer work)

@@ -2,9 +2,9 @@
 use Rattle.std.specs.Prelude.{ℕ, Bool, true, false, cond, ◌&&◌, List, length, Some, None, Option, ◌==◌}
 use Rattle.contents.specs.declared.life.CardState.{CardState}
 use Rattle.contents.specs.declared.life.CardState.TheVariants.{OpReady, Initialized, Secured, CmLocked, Terminated}
-use Rattle.scp01.specs.declared.SessionKeys.{SessionKeys}
+use Rattle.cipher.specs.declared.Keys.{Keys}
 use Rattle.apdu.specs.declared.Instruction.{Instruction}
-use Rattle.apdu.specs.declared.Instruction.TheVariants.{Select, InitializeUpdate, ExternalAuthenticate}
+use Rattle.apdu.specs.declared.Instruction.TheVariants.{Select, InitializeUpdate, ExternalAuthenticate, Manage}
 use Rattle.scp01.specs.declared.Level.{Level}
 use Rattle.scp01.specs.declared.Level.TheVariants.{Plain, Mac, MacEncrypted}
 use Rattle.card.specs.declared.channel.Handshake.{Handshake}
@@ -30,15 +30,16 @@ granted_in state (Some MacEncrypted) = Some MacEncrypted
 abbrev pub granted_level : CardState → ℕ → Option Level
 granted_level state byte = granted_in state (level_of byte)
 
-abbrev pub handshake : SessionKeys → List ℕ → List ℕ → Handshake
-handshake keys host card = record { keys = keys; host = host; card = card }
+abbrev pub handshake : Keys → List ℕ → List ℕ → Handshake
+handshake keys host card = record { keys = keys; challenges = record { host = host; card = card } }
 
 -- the channel once an instruction is taken, and before its own rule: SELECT, INITIALIZE UPDATE and EXTERNAL AUTHENTICATE
--- close what is open and drop what waits
-abbrev pub entered : Channel → Instruction → Channel
+-- close what is open and drop what waits; a channel command leaves it
+abbrev pub entered : {M : Type 0} → Channel → Instruction M → Channel
 entered h Select = Closed
 entered h InitializeUpdate = Closed
 entered h ExternalAuthenticate = Closed
+entered h (Manage i) = h
 
 -- what waits
 abbrev pub waiting : Channel → Option Handshake
@@ -47,13 +48,14 @@ waiting (Waiting w) = Some w
 waiting (Open s) = None
 
 -- EXTERNAL AUTHENTICATE alone uses up what waits
-abbrev pub used_up : Channel → Instruction → Option Handshake
+abbrev pub used_up : {M : Type 0} → Channel → Instruction M → Option Handshake
 used_up h Select = None
 used_up h InitializeUpdate = None
 used_up h ExternalAuthenticate = waiting h
+used_up h (Manage i) = None
 
 -- a challenge that waits, and the one that it answers, have eight bytes
 abbrev pub sized_channel : Channel → Bool
 sized_channel Closed = true
-sized_channel (Waiting w) = length w.host == 8 && length w.card == 8
+sized_channel (Waiting w) = length w.challenges.host == 8 && length w.challenges.card == 8
 sized_channel (Open s) = true

@@ -4,6 +4,7 @@ pub mod Channels
 pub mod Selecting
 pub mod Models
 pub mod Opening
+pub mod Inside
 pub mod Taking
 pub mod Cards
 pub mod Making

@@ -1,13 +1,12 @@
 -- INITIALIZE UPDATE and EXTERNAL AUTHENTICATE, which open a channel. Both begin with the channel closed.
-use Rattle.std.specs.Prelude.{ℕ, Bool, cond, List, [], ◌∷◌, ◌++◌, length, take, drop, Some, None, Option, ◌==◌}
+use Rattle.std.specs.Prelude.{ℕ, cond, List, [], ◌∷◌, length, take, drop, Some, None, Option, ◌==◌}
 use Rattle.std.specs.Str.{bytes_eq}
-use Rattle.answers.specs.declared.StatusWord.{StatusWord}
 use Rattle.answers.specs.declared.StatusWord.TheVariants.{Success, CryptogramRejected, WrongLength, SecurityNotSatisfied, ConditionsNotSatisfied, WrongParameters, NotFound, NoDiagnosis}
 use Rattle.challenge.specs.Draws.{Challenges}
 use Rattle.cipher.specs.Blocks.{Algorithm, zeros}
 use Rattle.contents.specs.declared.records.KeySet.{KeySet}
 use Rattle.contents.specs.Records.{chosen_set}
-use Rattle.scp01.specs.declared.SessionKeys.{SessionKeys}
+use Rattle.cipher.specs.declared.Keys.{Keys}
 use Rattle.scp01.specs.Session.{session_keys, card_cryptogram, host_cryptogram, command_code}
 use Rattle.card.specs.declared.channel.Channel.TheVariants.{Waiting, Open}
 use Rattle.card.specs.declared.channel.Handshake.{Handshake}
@@ -19,8 +18,8 @@ use Rattle.answers.specs.Replies.{Reply, reply, only}
 use Rattle.card.specs.Replies.{update_data}
 use Rattle.card.specs.Models.{Model, model, with_channel, stays}
 
-abbrev pub keys_of : Algorithm → KeySet → List ℕ → List ℕ → SessionKeys
-keys_of cipher k host card = session_keys cipher.enc k.enc k.mac k.kek host card
+abbrev pub keys_of : Algorithm → KeySet → List ℕ → List ℕ → Keys
+keys_of cipher k host card = session_keys cipher.enc k.keys.enc k.keys.mac k.keys.kek host card
 
 -- a challenge is drawn and waits; where none is to come, 6F00
 abbrev pub begun_with : Algorithm → Model → KeySet → List ℕ → Challenges → Model × Reply
@@ -46,7 +45,7 @@ abbrev pub proved : Algorithm → Model → Handshake → Level → ℕ → List
 proved cipher m w level p1 field =
     let cryptogram = take 8 field in
     let right = command_code cipher.enc w.keys.mac zeros 0x82 p1 0x00 cryptogram in
-    cond (bytes_eq cryptogram (host_cryptogram cipher.enc w.keys.enc w.host w.card))
+    cond (bytes_eq cryptogram (host_cryptogram cipher.enc w.keys.enc w.challenges.host w.challenges.card))
     (cond (bytes_eq (drop 8 field) right) (with_channel m (Open (session level w.keys right)), only Success)
     (stays m SecurityNotSatisfied))
     (stays m CryptogramRejected)

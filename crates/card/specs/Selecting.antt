@@ -1,5 +1,5 @@
 -- SELECT.
-use Rattle.std.specs.Prelude.{ℕ, Bool, cond, ◌&&◌, ◌||◌, List, length, Some, None, Option, ◌==◌, nat_lt}
+use Rattle.std.specs.Prelude.{cond, ◌&&◌, ◌||◌, length, Some, None, Option, ◌==◌, nat_lt}
 use Rattle.std.specs.Str.{bytes_eq}
 use Rattle.answers.specs.declared.StatusWord.{StatusWord}
 use Rattle.answers.specs.declared.StatusWord.TheVariants.{Success, SelectedLocked, WrongLength, FunctionNotSupported, FileNotFound, WrongParameters}

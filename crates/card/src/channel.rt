@@ -1,17 +1,18 @@
 // The secure channel: none, a challenge that waits, or open at a level.
-ghost use Rattle.std.specs.Prelude.{◌≡◌, ℕ};
+ghost use Rattle.std.specs.Prelude.{◌≡◌, IfSome};
+ghost use Rattle.scp01.specs.Levels.{level_value};
 ghost use Rattle.card.specs.Channels.{plain_allowed, granted_level, entered, used_up};
 
 use apdu::Instruction;
+use cipher::Keys;
 use contents::life::CardState;
-use scp01::{Level, Session, SessionKeys};
+use scp01::{ChallengePair, Level, Session};
 
 // What INITIALIZE UPDATE leaves for EXTERNAL AUTHENTICATE.
 #[derive(Clone, Copy)]
 pub struct Handshake {
-    pub keys: SessionKeys,
-    pub host: [u8; 8],
-    pub card: [u8; 8],
+    pub keys: Keys,
+    pub challenges: ChallengePair,
 }
 
 #[derive(Clone, Copy)]
@@ -21,49 +22,38 @@ pub enum Channel {
     Open(Session),
 }
 
-// The level that a byte asks for, if a card in this state grants it: SECURED and CM_LOCKED cards want codes.
-pub(crate) fn granted_level(state: CardState, byte: u8) -> Option<Level>
-    ensures { result ≡ granted_level state byte }
-{
-    match Level::from_value(byte) {
-        Some(Level::Plain) => {
-            if plain_allowed(state) {
-                Some(Level::Plain)
-            } else {
-                None
-            }
-        }
-        level => level,
-    }
-}
-
 // Whether a channel may go without codes.
-fn plain_allowed(state: CardState) -> bool
+pub(crate) fn plain_allowed(state: CardState) -> bool
     ensures { result ≡ plain_allowed state }
 {
-    match state {
-        CardState::OpReady | CardState::Initialized => true,
-        CardState::Secured | CardState::CmLocked | CardState::Terminated => false,
+    state == CardState::OpReady || state == CardState::Initialized
+}
+
+// The level that a byte asks for, if a card in this state grants it: SECURED and CM_LOCKED cards want codes.
+pub(crate) fn granted_level(state: CardState, byte: u8) -> Option<Level>
+    ensures level { result ≡ granted_level state byte }
+    ensures value { IfSome result (λ level. level_value level ≡ byte) }
+{
+    let level = Level::try_from(byte).ok()?;
+    if level == Level::Plain && !plain_allowed(state) {
+        return None;
     }
+    Some(level)
 }
 
 impl Channel {
     // What an instruction does to the channel before its own rule. EXTERNAL AUTHENTICATE gets what waited.
-    pub fn enter(&mut self, instruction: Instruction) -> Option<Handshake>
+    pub fn enter<M: Copy>(&mut self, instruction: Instruction<M>) -> Option<Handshake>
         ensures channel { self.new ≡ entered self.old instruction }
         ensures handshake { result ≡ used_up self.old instruction }
     {
         match (*self, instruction) {
+            (_, Instruction::Manage(_)) => None,
             (Channel::Waiting(handshake), Instruction::ExternalAuthenticate) => {
                 *self = Channel::Closed;
                 Some(handshake)
             }
-            (
-                _,
-                Instruction::Select
-                | Instruction::InitializeUpdate
-                | Instruction::ExternalAuthenticate,
-            ) => {
+            (_, _) => {
                 *self = Channel::Closed;
                 None
             }

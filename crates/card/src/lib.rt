@@ -1,9 +1,8 @@
-// The card manager of a Java card, over any block cipher and any source of challenges.
+// The card manager of a Java card, over any block cipher, any source of challenges and any commands inside a channel.
 #![tactic(auto)]
 
 mod admit;
 pub mod answer;
-mod bytes;
 pub mod card;
 pub mod channel;
 mod select;

@@ -1,55 +1,56 @@
 // SELECT.
-ghost use Rattle.std.specs.Prelude.{◌≡◌, ℕ};
-ghost use Rattle.std.specs.Str.{bytes_eq};
+ghost use Rattle.std.specs.Prelude.{◌≡◌};
 ghost use Rattle.contents.specs.Contents.{held};
-ghost use Rattle.contents.specs.Records.{is_application, is_application_kind};
 ghost use Rattle.apdu.specs.Apdu.{meaning};
-ghost use Rattle.card.specs.Replies.{said};
+ghost use Rattle.card.specs.Replies.{replied};
 ghost use Rattle.card.specs.Selecting.{manager_status, found_status, selected};
 
 use crate::answer::Answer;
-use crate::bytes::same_bytes;
 use answers::StatusWord;
 use apdu::Command;
 use contents::Contents;
 use contents::life::{CardState, EntryKind};
-use contents::records::Entry;
+use contents::records::{Entry, is_card_manager};
 
-const CARD_MANAGER: [u8; 8] = [0xA0, 0x00, 0x00, 0x00, 0x03, 0x00, 0x00, 0x00];
+// 6F, then 84 with the card manager's AID, and A5 with 9F65 and FF.
+const MANAGER: [u8; 18] = [
+    0x6F, 0x10, 0x84, 0x08, 0xA0, 0x00, 0x00, 0x00, 0x03, 0x00, 0x00, 0x00, 0xA5, 0x04, 0x9F, 0x65,
+    0x01, 0xFF,
+];
 
+// A locked card warns.
 fn manager_status(state: CardState) -> StatusWord
     ensures { result ≡ manager_status state }
 {
-    match state {
-        CardState::CmLocked => StatusWord::SelectedLocked,
-        _ => StatusWord::Success,
+    if state == CardState::CmLocked {
+        StatusWord::SelectedLocked
+    } else {
+        StatusWord::Success
     }
 }
 
+// Applications cannot be selected, load files are not there to be.
 fn found_status(entry: Option<Entry>) -> StatusWord
     ensures { result ≡ found_status entry }
 {
     match entry {
-        None => StatusWord::FileNotFound,
-        Some(entry) => match entry.kind {
-            EntryKind::Application => StatusWord::FunctionNotSupported,
-            EntryKind::LoadFile => StatusWord::FileNotFound,
-        },
+        Some(entry) if entry.kind == EntryKind::Application => StatusWord::FunctionNotSupported,
+        _ => StatusWord::FileNotFound,
     }
 }
 
-pub(crate) fn select(contents: &Contents, command: Command) -> Answer
-    ensures { said result ≡ selected (held contents.now) (meaning command.entry) }
+pub(crate) fn select(contents: &Contents, command: Command) -> Result<Answer, StatusWord>
+    ensures { replied result ≡ selected (held contents.now) (meaning command.entry) }
 {
-    if !(command.p1 == 0x04 && command.p2 == 0x00) {
-        return Answer::Status(StatusWord::WrongParameters);
+    if command.p1 != 0x04 || command.p2 != 0x00 {
+        return Err(StatusWord::WrongParameters);
     }
     let name = command.field;
     if name.len() < 5 || name.len() > 16 {
-        return Answer::Status(StatusWord::WrongLength);
+        return Err(StatusWord::WrongLength);
     }
-    if same_bytes(name, &CARD_MANAGER) {
-        return Answer::Manager(manager_status(contents.state()));
+    if is_card_manager(name) {
+        return Ok(Answer::new(&MANAGER, manager_status(contents.state())));
     }
-    Answer::Status(found_status(contents.entry(name)))
+    Err(found_status(contents.entry(name)))
 }

@@ -43,10 +43,7 @@ impl Source for Recorded {
     }
 
     fn draw(&mut self) -> Option<[u8; 8]> {
-        if self.drawn >= self.challenges.len() {
-            return None;
-        }
-        let challenge = self.challenges[self.drawn];
+        let challenge = *self.challenges.get(self.drawn)?;
         self.drawn += 1;
         Some(challenge)
     }

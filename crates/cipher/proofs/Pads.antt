@@ -1,22 +1,13 @@
 -- The blocks of a padded message: those of the message, and one last block. Assumes nothing.
-use Rattle.std.proofs.Common.{◌≡◌, ℕ, zero, suc, ◌+◌, ◌-◌, ◌*◌, ◌/◌, ◌%◌, ◌<◌, ◌≤◌, List, [], ◌∷◌, ◌++◌, length, take, drop, set, replicate, fold, sym, refl, ap, ◌∙◌, arith, length-append, length-drop}
+use Rattle.std.proofs.Common.{◌≡◌, ℕ, zero, suc, ◌+◌, ◌*◌, ◌/◌, ◌%◌, ◌≤◌, List, [], ◌∷◌, ◌++◌, length, take, drop, replicate, fold, sym, refl, ap, ◌∙◌, arith, length-append, length-drop}
 use lib.ListN.{length-replicate}
 use Rattle.std.specs.Simd.{first_chunks}
-use Rattle.std.proofs.lemmas.List.{drop-replicate, set_at, take-append-le, drop-append-le, drop-drop, take_all}
+use Rattle.std.proofs.lemmas.List.{take-append-le, drop-append-le, drop-drop, take_all}
 use Rattle.std.proofs.lemmas.List.Sums.{fold_push}
 use Rattle.cipher.specs.Mac.{padded, blocks, missing, chained, link, Pads}
 
 abbrev pub pad : List ℕ → List ℕ
 pad rest = 0x80 ∷ replicate (missing (length rest)) 0
-
-pub filled : (rest front : List ℕ) → length rest < 8 → front ≡ rest → set (front ++ drop (length rest - 0) (replicate 8 0)) (length rest) 0x80 ≡ rest ++ pad rest
-filled rest front l e =
-    let n : length rest - 0 ≡ length rest = omega arith in
-    let m : 8 - length rest ≡ suc (missing (length rest)) = omega arith in
-    ap (λ f. set (f ++ drop (length rest - 0) (replicate 8 0)) (length rest) 0x80) e
-    ∙ ap (λ i. set (rest ++ drop i (replicate 8 0)) (length rest) 0x80) n
-    ∙ ap (λ z. set (rest ++ z) (length rest) 0x80) (drop-replicate (length rest) 8 0 ∙ ap (λ i. replicate i 0) m)
-    ∙ set_at rest 0 (replicate (missing (length rest)) 0) 0x80 (length rest) refl
 
 one_more : (n : ℕ) (xs ys : List ℕ) → n * 8 ≤ length xs → first_chunks 8 (suc n) (xs ++ ys) ≡ first_chunks 8 n xs ++ (take 8 (drop (n * 8) (xs ++ ys)) ∷ [])
 one_more zero xs ys h = refl

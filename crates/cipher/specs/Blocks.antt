@@ -1,5 +1,5 @@
 -- Keys and blocks as lists of bytes, and what a block cipher means.
-use Rattle.std.specs.Prelude.{◌≡◌, ℕ, ◌<◌, List, length, replicate, bit_xor, slice_index}
+use Rattle.std.specs.Prelude.{◌≡◌, ℕ, ◌<◌, List, [], ◌∷◌, length, take, drop, replicate, bit_xor, slice_index}
 use Rattle.std.specs.Simd.Lanes.{zip2}
 
 -- n bytes
@@ -10,6 +10,10 @@ pub record Bytes (n : ℕ) (bs : List ℕ) : Type 0 where
 -- exclusive or, byte by byte
 abbrev pub xor : List ℕ → List ℕ → List ℕ
 xor xs ys = zip2 bit_xor xs ys
+
+-- the two halves of a key of sixteen bytes
+abbrev pub halves : List ℕ → List (List ℕ)
+halves key = take 8 key ∷ take 8 (drop 8 key) ∷ []
 
 -- one direction of a cipher: from a key and a block to a block
 abbrev pub Direction : Type 0
@@ -25,9 +29,6 @@ pub record Algorithm : Type 0 where
   pub enc : Direction
   pub dec : Direction
   pub identifier : ℕ
-
-abbrev pub algorithm : Direction → Direction → ℕ → Algorithm
-algorithm enc dec identifier = record { enc = enc; dec = dec; identifier = identifier }
 
 -- eight bytes 00: where every chain begins
 abbrev pub zeros : List ℕ

@@ -27,11 +27,9 @@ fn encipher_into<C: Cipher>(keys: &C::RoundKeys, start: &[u8; 8], text: &[u8], a
 {
     let (blocks, _) = text.as_chunks::<8>();
     let mut before = *start;
-    let mut at = 0;
-    for block in blocks {
+    for (i, block) in blocks.iter().enumerate() {
         before = C::encipher(keys, &xored(&before, block));
-        put_block(area, at, &before);
-        at += 8;
+        put_block(area, 8 * i, &before);
     }
 }
 
@@ -42,11 +40,9 @@ fn decipher_into<C: Cipher>(keys: &C::RoundKeys, start: &[u8; 8], text: &[u8], a
 {
     let (blocks, _) = text.as_chunks::<8>();
     let mut before = *start;
-    let mut at = 0;
-    for block in blocks {
-        put_block(area, at, &xored(&before, &C::decipher(keys, block)));
+    for (i, block) in blocks.iter().enumerate() {
+        put_block(area, 8 * i, &xored(&before, &C::decipher(keys, block)));
         before = *block;
-        at += 8;
     }
 }
 
@@ -58,7 +54,7 @@ pub fn encipher_blocks<C: Cipher>(
     text: &[u8],
     area: &mut [u8],
 ) -> Option<usize>
-    ensures blocks { (result, area.new) ≡ blocks_into area.old (length text.now) (cbc_enciphered (C.Cipher.enc key.now) start.now text.now) }
+    ensures blocks { (result, area.new) ≡ blocks_into area.old (length text.now) (cbc_enciphered (C.algorithm.enc key.now) start.now text.now) }
     ensures length { IfSome result (λ n. n ≡ length text.now) }
 {
     if !fits(text.len(), area.len()) {
@@ -75,9 +71,9 @@ pub fn decipher_blocks<C: Cipher>(
     text: &[u8],
     area: &mut [u8],
 ) -> Option<usize>
-    ensures blocks { (result, area.new) ≡ blocks_into area.old (length text.now) (cbc_deciphered (C.Cipher.dec key.now) start.now text.now) }
+    ensures blocks { (result, area.new) ≡ blocks_into area.old (length text.now) (cbc_deciphered (C.algorithm.dec key.now) start.now text.now) }
     ensures length { IfSome result (λ n. n ≡ length text.now) }
-    ensures undone { ChainUndone C.Cipher.enc C.Cipher.dec }
+    ensures undone { ChainUndone C.algorithm.enc C.algorithm.dec }
 {
     if !fits(text.len(), area.len()) {
         return None;

@@ -31,7 +31,7 @@ pub fn chained_code<C: Cipher>(keys: &C::RoundKeys, start: &[u8; 8], bytes: &[u8
 
 // The code under a key.
 pub fn code<C: Cipher>(key: &[u8; 16], start: &[u8; 8], bytes: &[u8]) -> [u8; 8]
-    ensures { result ≡ mac C.Cipher.enc key.now start.now bytes.now }
+    ensures { result ≡ mac C.algorithm.enc key.now start.now bytes.now }
 {
     let keys = C::expand(key);
     chained_code::<C>(&keys, start, bytes)

@@ -1,6 +1,6 @@
 -- a list with one element altered or taken out: every element still passes, and no two are the same
 use Rattle.std.proofs.Common.{◌≡◌, ℕ, zero, suc, ◌<◌, ◌≤◌, Bool, true, false, cond, not, ◌&&◌, ◌||◌, eqb, leb, List, [], ◌∷◌, length, get_or, take, set, Some, None, Option, sym, refl, ap, ◌∙◌, ⊎_elim, arith, rules}
-use Rattle.std.proofs.lemmas.List.{same_lists, places, get_or-set_same, get_or-take, get_or_past, length-set}
+use Rattle.std.proofs.lemmas.List.{same_lists, places, get_or-set_same, get_or-take, get_or_past, length-set, length-take}
 use Rattle.std.proofs.lemmas.Bool.{cases_eq, cases_lt, and_parts, and_from, false≢true}
 use Rattle.std.specs.Str.{bytes_eq}
 use Rattle.contents.specs.declared.life.EntryKind.{EntryKind}
@@ -13,13 +13,13 @@ use Rattle.contents.specs.Records.{name_of, card_manager, bears, is_application_
 use Rattle.contents.specs.Held.{Held, all, any, distinct, same_name, sound_aid, privileges_fit, sound_entry, sound_entries, sound_sets, sound, state_fits}
 use Rattle.contents.specs.Changes.{with_entries, with_sets, in_state, state_set, state_set_at, state_set_named, takes_state}
 
-pub take_set_within : {X : Type 0} (n i : ℕ) (xs : List X) (v : X) → i < n → i < length xs → take n (set xs i v) ≡ set (take n xs) i v
-take_set_within n i xs v lt le = same_lists _ _ (search (rules, places)) (λ k d h. grind (arith, places, get_or-set_same, cases_eq k i))
+pub take_set_within : {X : Type 0} (n i : ℕ) (xs : List X) (v : X) → i < length (take n xs) → take n (set xs i v) ≡ set (take n xs) i v
+take_set_within n i xs v lt = same_lists _ _ (search (rules, places)) (λ k d h. grind (arith, places, get_or-set_same, cases_eq k i))
 
-pub listed_set : (n i : ℕ) (s : EntryState) (es : List Entry) → i < n → i < length es → take n (set es i (in_state s (get_or es i no_entry))) ≡ state_set (take n es) i s
-listed_set n i s es lt le =
-    take_set_within n i es (in_state s (get_or es i no_entry)) lt le
-    ∙ ap (λ e. set (take n es) i (in_state s e)) (sym (get_or-take n es i no_entry lt))
+pub listed_set : (n i : ℕ) (s : EntryState) (es : List Entry) → i < length (take n es) → take n (set es i (in_state s (get_or es i no_entry))) ≡ state_set (take n es) i s
+listed_set n i s es lt =
+    take_set_within n i es (in_state s (get_or es i no_entry)) lt
+    ∙ ap (λ e. set (take n es) i (in_state s e)) (sym (get_or-take n es i no_entry (omega (arith, simp length-take at lt))))
 
 pub all_set : {X : Type 0} (p : X → Bool) (xs : List X) (i : ℕ) (v : X) → all p xs ≡ true → p v ≡ true → all p (set xs i v) ≡ true
 all_set p [] i v h e = refl

@@ -1,18 +1,15 @@
 -- a body that is read is written back as it was, and a body that is written is read back as what it was written of
-use Rattle.std.proofs.Common.{◌≡◌, ℕ, ◌+◌, ◌≤◌, Bool, true, false, not, List, [], ◌∷◌, ◌++◌, length, get_or, take, drop, Some, None, Option, sym, refl, ap, ◌∙◌, arith}
+use Rattle.std.proofs.Common.{◌≡◌, ℕ, ◌+◌, ◌≤◌, Bool, true, List, [], ◌∷◌, ◌++◌, length, get_or, take, drop, Some, None, Option, sym, refl, ap, ◌∙◌, arith}
 use Rattle.std.proofs.lemmas.List.{append_assoc, drop_more, take-append-drop, take_at, drop_at, get_or_at, drop-drop, length-append}
-use Rattle.std.proofs.lemmas.Bool.{and_from}
 use Rattle.std.proofs.lemmas.Bool.Decides.{nat_tests}
 use Rattle.contents.specs.declared.life.EntryKind.{EntryKind}
 use Rattle.contents.specs.declared.life.EntryState.{EntryState}
 use Rattle.contents.specs.declared.records.Entry.{Entry}
 use Rattle.contents.specs.declared.records.KeySet.{KeySet}
 use Rattle.contents.specs.Life.{kind_value, entry_kind, entry_state_value, entry_state}
-use Rattle.std.specs.Str.{bytes_eq}
-use Rattle.contents.specs.Records.{card_manager}
-use Rattle.contents.specs.Held.{sound_aid, state_fits, privileges_fit, sound_key_set, sound_entry}
+use Rattle.contents.specs.Held.{state_fits, sound_key_set, sound_entry}
 use Rattle.contents.specs.Image.{allowed, and_then, key_set_of, key_set_in, entry_of, entry_in, key_set_bytes, entry_bytes}
-use Rattle.contents.proofs.Values.{kind_back, kind_named, entry_state_back, entry_state_fits, entry_state_named}
+use Rattle.contents.proofs.Values.{kind_back, kind_named, entry_state_back, entry_state_named}
 
 pub allowed_some : {X : Type 0} (p : X → Bool) (x y : X) → allowed p x ≡ Some y → (p y ≡ true) × (x ≡ y)
 allowed_some p x y e = grind arith
@@ -68,15 +65,15 @@ three_fields a b c rest la lb lc =
     let r : drop 32 (a ++ (b ++ (c ++ rest))) ≡ c ++ rest = sym (drop-drop 16 16 (a ++ (b ++ (c ++ rest)))) ∙ ap (drop 16) p ∙ q in
     (rw x (take_at a _ 16 la), rw (x, p) (take_at b _ 16 lb), rw (x, r) (take_at c _ 16 lc))
 
-pub key_lengths : (k : KeySet) → sound_key_set k ≡ true → (length k.enc ≡ 16) × (length k.mac ≡ 16) × (length k.kek ≡ 16)
+pub key_lengths : (k : KeySet) → sound_key_set k ≡ true → (length k.keys.enc ≡ 16) × (length k.keys.mac ≡ 16) × (length k.keys.kek ≡ 16)
 key_lengths k h = (grind (arith, nat_tests), grind (arith, nat_tests), grind (arith, nat_tests))
 
 -- a key set that is written is read back
-pub key_set_read : (k : KeySet) (rest : List ℕ) → sound_key_set k ≡ true → key_set_in (k.version ∷ ((k.enc ++ (k.mac ++ k.kek)) ++ rest)) ≡ Some k
+pub key_set_read : (k : KeySet) (rest : List ℕ) → sound_key_set k ≡ true → key_set_in (k.version ∷ ((k.keys.enc ++ (k.keys.mac ++ k.keys.kek)) ++ rest)) ≡ Some k
 key_set_read k rest h =
     let n = key_lengths k h in
-    let f = three_fields k.enc k.mac k.kek rest n.0 n.1 n.2 in
-    let w : key_set_of (k.version ∷ ((k.enc ++ (k.mac ++ k.kek)) ++ rest)) ≡ record { version = k.version; enc = k.enc; mac = k.mac; kek = k.kek } = cc in
+    let f = three_fields k.keys.enc k.keys.mac k.keys.kek rest n.0 n.1 n.2 in
+    let w : key_set_of (k.version ∷ ((k.keys.enc ++ (k.keys.mac ++ k.keys.kek)) ++ rest)) ≡ record { version = k.version; keys = record { enc = k.keys.enc; mac = k.keys.mac; kek = k.keys.kek } } = cc in
     allowed_is sound_key_set _ k w h
 
 -- what an entry that is read was read from
@@ -125,13 +122,3 @@ entry_read e rest h =
     let s : entry_state e.kind (get_or (entry_body e rest) 18 0) ≡ Some e.state = ap (entry_state e.kind) f.1 ∙ entry_state_named e.kind e.state (state_fits_sound e h) in
     let w : entry_of e.kind e.state (entry_body e rest) ≡ record { kind = e.kind; aid = record { bytes = e.aid.bytes; len = e.aid.len }; state = e.state; privileges = e.privileges } = cc in
     entry_of_is (entry_body e rest) e.kind e.state e (kind_named e.kind) s (allowed_is sound_entry _ e w h)
-
--- an entry whose values have each been found allowed
-pub entry_accepted : (b name bytes : List ℕ) (kind : EntryKind) (state : EntryState) → Some kind ≡ entry_kind (get_or b 0 0) → Some state ≡ entry_state kind (get_or b 18 0) → bytes ≡ take 16 (drop 2 b) → true ≡ sound_aid (record { bytes = bytes; len = get_or b 1 0 }) → true ≡ privileges_fit kind (get_or b 19 0) → name ≡ take (get_or b 1 0) bytes → false ≡ bytes_eq name card_manager → Some (record { kind = kind; aid = record { bytes = bytes; len = get_or b 1 0 }; state = state; privileges = get_or b 19 0 }) ≡ entry_in b
-entry_accepted b name bytes kind state k s is aid p named other =
-    let e : Entry = record { kind = kind; aid = record { bytes = bytes; len = get_or b 1 0 }; state = state; privileges = get_or b 19 0 } in
-    let n : not (bytes_eq (take (get_or b 1 0) bytes) card_manager) ≡ true = rw (sym named, sym other) refl in
-    let f = entry_state_fits kind (get_or b 18 0) state (sym s) in
-    let good : sound_entry e ≡ true = and_from (sound_aid e.aid) _ (sym aid) (and_from (state_fits kind state) _ f (and_from (privileges_fit kind (get_or b 19 0)) _ (sym p) n)) in
-    let w : entry_of kind state b ≡ e = rw is refl in
-    sym (entry_of_is b kind state e (sym k) (sym s) (allowed_is sound_entry (entry_of kind state b) e w good))

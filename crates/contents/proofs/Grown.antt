@@ -11,16 +11,17 @@ use Rattle.contents.specs.declared.life.EntryState.{EntryState}
 use Rattle.contents.specs.declared.life.EntryKind.TheVariants.{Application}
 use Rattle.contents.specs.declared.records.Entry.{Entry}
 use Rattle.contents.specs.declared.records.KeySet.{KeySet}
-use Rattle.contents.specs.Search.{first_from, first_of}
+use Rattle.std.proofs.lemmas.List.Quantifiers.{position-Some}
+use Rattle.contents.specs.Search.{first_of}
 use Rattle.contents.specs.Records.{name_of, card_manager, bears, has_version, no_key_set}
 use Rattle.contents.specs.Held.{all, any, distinct, filled_name, same_name, same_version, sound_aid, state_fits, sound_entry, sound_entries, sound_key_set, sound_sets}
 use Rattle.contents.specs.Changes.{is_name, aid_of, new_application, admits, removed_at, without_named, is_version, admits_set, borne_by_other, replaces_set, replaced_at, replaced_named}
 use Rattle.contents.proofs.Uniques.{all_push, distinct_push, no_version, no_name}
 use Rattle.contents.proofs.Altered.{all_set, distinct_set_like}
 
--- one element taken out of the first n
-pub copied_down : {X : Type 0} (xs ys : List X) (at n : ℕ) → ys ≡ paste xs at (drop (at + 1) xs) (n - (at + 1)) → at < n → n ≤ length xs → take (n - 1) ys ≡ remove (take n xs) at
-copied_down xs ys at n is lt le = rw is (same_lists _ _ (search (rules, places)) (λ k d h. grind (arith, places)))
+-- one element taken out of the first ones, of which there are k
+pub copied_down : {X : Type 0} (xs ys : List X) (at n k : ℕ) → ys ≡ paste xs at (drop (at + 1) xs) (k - (at + 1)) → k ≡ length (take n xs) → at < k → take (k - 1) ys ≡ remove (take n xs) at
+copied_down xs ys at n k is long lt = rw is (same_lists _ _ (search (rules, places)) (λ k d h. grind (arith, places)))
 
 all_removed : {X : Type 0} (p : X → Bool) (xs : List X) (i : ℕ) → all p xs ≡ true → all p (remove xs i) ≡ true
 all_removed p [] zero h = refl
@@ -130,16 +131,16 @@ sets_from ks some few p q =
 
 -- a set's three keys have sixteen bytes each
 pub record Keys (k : KeySet) : Type 0 where
-  pub enc : length k.enc ≡ 16
-  pub mac : length k.mac ≡ 16
-  pub kek : length k.kek ≡ 16
+  pub enc : length k.keys.enc ≡ 16
+  pub mac : length k.keys.mac ≡ 16
+  pub kek : length k.keys.kek ≡ 16
 
 set_sound : (k : KeySet) → Keys k → is_version k.version ≡ true → sound_key_set k ≡ true
 set_sound k keys h =
     let a = and_parts (leb 1 k.version) (leb k.version 0x7F) h in
-    let enc = eqb (length k.enc) 16 in
-    let mac = eqb (length k.mac) 16 in
-    let kek = eqb (length k.kek) 16 in
+    let enc = eqb (length k.keys.enc) 16 in
+    let mac = eqb (length k.keys.mac) 16 in
+    let kek = eqb (length k.keys.kek) 16 in
     and_from (leb 1 k.version) (leb k.version 0x7F && (enc && (mac && kek))) a.0
     (and_from (leb k.version 0x7F) (enc && (mac && kek)) a.1
     (and_from enc (mac && kek) (eq-eqb _ 16 keys.enc) (and_from mac kek (eq-eqb _ 16 keys.mac) (eq-eqb _ 16 keys.kek))))
@@ -158,24 +159,6 @@ set_added ks k keys h admitted =
 pub set_sound_after : (ks after : List KeySet) (k : KeySet) (r : Bool) → Keys k → sound_sets ks ≡ true → r ≡ admits_set k.version ks → after ≡ cond r (ks ++ k ∷ []) ks → sound_sets after ≡ true
 set_sound_after ks after k false keys h taken is = rw is h
 set_sound_after ks after k true keys h taken is = rw is (set_added ks k keys h (sym taken))
-
--- the element that a search found passes
-first_at : {X : Type 0} (p : X → Bool) (xs : List X) (i j : ℕ) (d : X) → first_from p i xs ≡ Some j → (k : ℕ) × (j ≡ i + k) × (p (get_or xs k d) ≡ true)
-first_at p [] i j d e = grind arith
-first_at p (x ∷ xs) i j d e =
-    let P : Bool → Type 0 = λ b. p x ≡ b → cond b (Some i) (first_from p (i + 1) xs) ≡ Some j → (k : ℕ) × (j ≡ i + k) × (p (get_or (x ∷ xs) k d) ≡ true) in
-    elim (p x) as P [
-      | true ↦ λ same is. (0, grind arith, same)
-      | false ↦ λ same is. let r = first_at p xs (i + 1) j d is in (suc r.0, omega (arith, r.1), r.2)
-    ]
-    refl
-    e
-
-found_passes : {X : Type 0} (p : X → Bool) (xs : List X) (j : ℕ) (d : X) → first_of p xs ≡ Some j → p (get_or xs j d) ≡ true
-found_passes p xs j d e =
-    let r = first_at p xs 0 j d e in
-    let at : j ≡ r.0 = omega (arith, r.1) in
-    ap (λ k. p (get_or xs k d)) at ∙ r.2
 
 any_set : {X : Type 0} (p : X → Bool) (xs : List X) (i : ℕ) (v : X) → any p xs ≡ false → p v ≡ false → any p (set xs i v) ≡ false
 any_set p [] i v h e = refl
@@ -209,7 +192,7 @@ replaced_at_sound : (ks : List KeySet) (v : ℕ) (k : KeySet) (at : Option ℕ) 
 replaced_at_sound ks v k None keys h found fits other = h
 replaced_at_sound ks v k (Some i) keys h found fits other =
     let parts = sets_parts ks h in
-    let at : (get_or ks i no_key_set).version ≡ v = eqb-true _ v (found_passes (has_version v) ks i no_key_set found) in
+    let at : (get_or ks i no_key_set).version ≡ v = eqb-true _ v (position-Some (has_version v) ks i no_key_set found).1 in
     sets_from (set ks i k)
     (simp length-set parts.0)
     (simp length-set parts.1)

@@ -1,4 +1,3 @@
-pub mod Searches
 pub mod Values
 pub mod Bodies
 pub mod Uniques
@@ -7,7 +6,6 @@ pub mod RoundTrips
 pub mod ReadsBack
 pub mod Takes
 pub mod Readings
-pub mod Areas
-pub mod ImagePuts
+pub mod Images
 pub mod Altered
 pub mod Grown

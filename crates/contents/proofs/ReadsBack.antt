@@ -16,8 +16,8 @@ use Rattle.contents.specs.Held.{Held, all, any, same_version, same_name, sound_k
 use Rattle.contents.specs.Image.{header_bytes, key_set_bytes, entry_bytes, image_bytes, key_set_in, entry_in, next_kind, with_key_set, with_entry, last, next, read_fields, read_body, read_record, read_records, read_rest, headed, read_header, read_image}
 use Rattle.contents.proofs.Values.{card_state_named}
 use Rattle.contents.proofs.Bodies.{key_lengths, aid_length, key_set_read, entry_read}
-use Rattle.contents.proofs.Uniques.{all_at, distinct_at}
-use Rattle.contents.proofs.Steps.{Sound, no_version, no_name, step_on}
+use Rattle.contents.proofs.Uniques.{all_at, distinct_at, no_version, no_name}
+use Rattle.contents.proofs.Steps.{Sound, step_on}
 
 value_grows : {X : Type 0} (size : ℕ) (body : List ℕ) (o : Option X) (twice : X → Bool) (grown : X → Held) (x : X) (rest : List ℕ) → size ≤ length body → o ≡ Some x → twice x ≡ false → drop size body ≡ rest → read_fields size body (λ _. o) twice grown ≡ next (grown x) rest
 value_grows size body None twice grown x rest long is once left = absurd (grind arith)
@@ -62,7 +62,7 @@ entry_long e h = let n = aid_length e h in simp length-append (omega arith)
 -- a record of a key set, where no earlier one has its version
 key_set_step : (h : Held) (k : KeySet) (rest : List ℕ) → h.entries ≡ [] → length h.sets < 4 → sound_key_set k ≡ true → any (λ j. same_version j k) h.sets ≡ false → read_record h (key_set_bytes k ++ rest) ≡ next (with_key_set h k) rest
 key_set_step h k rest none few good once =
-    let body = k.version ∷ ((k.enc ++ (k.mac ++ k.kek)) ++ rest) in
+    let body = k.version ∷ ((k.keys.enc ++ (k.keys.mac ++ k.keys.kek)) ++ rest) in
     let long : length body ≡ 49 + length rest = omega (arith, key_set_long k good, length-append (key_set_bytes k) rest) in
     let left : drop 49 body ≡ rest = drop_at (key_set_bytes k) rest 50 (key_set_long k good) in
     ap (λ o. read_body o h body) (keys_may h none few)

@@ -1,11 +1,9 @@
 -- one record that is read: what has been read and what is left are still the same bytes, and what has been read stays sound
-use Rattle.std.proofs.Common.{◌≡◌, ℕ, suc, ◌<◌, ◌≤◌, Bool, true, false, eqb, List, [], ◌∷◌, ◌++◌, length, drop, Some, None, Ok, Err, Option, Result, sym, refl, ap, ◌∙◌, arith}
+use Rattle.std.proofs.Common.{◌≡◌, ℕ, suc, ◌<◌, ◌≤◌, Bool, true, false, List, [], ◌∷◌, ◌++◌, length, drop, Some, None, Ok, Err, Option, Result, sym, refl, ap, ◌∙◌, arith}
 use Rattle.std.specs.List.{flat_map}
-use Rattle.std.specs.Str.{bytes_eq}
-use Rattle.std.proofs.lemmas.Slice.Eq.{bytes_eq-Decides}
 use Rattle.std.proofs.lemmas.List.{append_assoc, append-nil, nil_from_length, flat_map_more, length-drop, length_push}
 use Rattle.std.proofs.lemmas.Bool.{eqb-true}
-use Rattle.std.proofs.lemmas.Bool.Decides.{nat_tests, same_from_decides, Decides-like}
+use Rattle.std.proofs.lemmas.Bool.Decides.{nat_tests}
 use Rattle.answers.specs.declared.Refusal.{Refusal}
 use Rattle.contents.specs.declared.records.Entry.{Entry}
 use Rattle.contents.specs.declared.records.KeySet.{KeySet}
@@ -15,7 +13,7 @@ use Rattle.contents.specs.Records.{name_of, bears, has_version}
 use Rattle.contents.specs.Held.{Held, all, any, distinct, same_version, same_name, sound_key_set, sound_entry}
 use Rattle.contents.specs.Image.{header_bytes, key_set_bytes, entry_bytes, key_set_in, entry_in, is_empty, next_kind, with_key_set, with_entry, Step, fault, last, next, read_fields, read_body, read_record, read_records}
 use Rattle.contents.proofs.Bodies.{key_set_back, entry_back}
-use Rattle.contents.proofs.Uniques.{all_push, any_alike, distinct_push}
+use Rattle.contents.proofs.Uniques.{all_push, distinct_push, no_version, no_name}
 
 -- the bytes of all records but the last
 abbrev pub front : Held → List ℕ
@@ -38,18 +36,6 @@ pub record Took (h : Held) (bytes : List ℕ) (more : Held) (rest : List ℕ) : 
   pub same : front h ++ bytes ≡ front more ++ rest
   pub sound : SoFar h → SoFar more
   pub shorter : length rest < length bytes
-
-eqb_flip : (a b : ℕ) → eqb a b ≡ eqb b a
-eqb_flip a b = grind (arith, nat_tests)
-
-same_flip : (xs ys : List ℕ) → bytes_eq xs ys ≡ bytes_eq ys xs
-same_flip xs ys = same_from_decides _ _ (bytes_eq-Decides xs ys) (Decides-like _ sym sym (bytes_eq-Decides ys xs))
-
-pub no_version : (ks : List KeySet) (k : KeySet) → any (has_version k.version) ks ≡ any (λ j. same_version j k) ks
-no_version ks k = any_alike _ _ ks (λ j. eqb_flip j.version k.version)
-
-pub no_name : (es : List Entry) (e : Entry) → any (bears (name_of e)) es ≡ any (λ f. same_name f e) es
-no_name es e = any_alike _ _ es (λ f. same_flip (name_of f) (name_of e))
 
 value_next : {X : Type 0} (size : ℕ) (body : List ℕ) (o : Option X) (twice : X → Bool) (grown : X → Held) (h : Held) (rest : List ℕ) → read_fields size body (λ _. o) twice grown ≡ next h rest → (x : X) × (size ≤ length body) × (o ≡ Some x) × (twice x ≡ false) × (grown x ≡ h) × (drop size body ≡ rest)
 value_next size body None twice grown h rest e = absurd (grind (arith, nat_tests))

@@ -1,34 +1,29 @@
 -- lists that grow at the end, of which every element passes a test and no two are the same
-use Rattle.std.proofs.Common.{◌≡◌, ℕ, ◌+◌, Bool, true, false, cond, not, ◌||◌, eqb, List, [], ◌∷◌, ◌++◌, is_some, Some, sym, refl, arith}
+use Rattle.std.proofs.Common.{◌≡◌, ℕ, ◌+◌, Bool, true, false, cond, not, ◌&&◌, ◌||◌, eqb, List, [], ◌∷◌, ◌++◌, is_some, Some, sym, refl, ap, ◌∙◌, arith}
 use Rattle.std.specs.Str.{bytes_eq}
 use Rattle.std.proofs.lemmas.Slice.Eq.{bytes_eq-Decides}
 use Rattle.std.proofs.lemmas.Bool.Decides.{nat_tests, same_from_decides, Decides-like}
 use Rattle.std.proofs.lemmas.Bool.{and_parts, and_from, or_parts, or_from, not-true, not_from_false}
-use Rattle.contents.specs.Search.{first_from, first_of}
+use Rattle.std.specs.List.{position_from}
+use Rattle.std.proofs.lemmas.List.Folds.{list_all-append, list_any-append}
+use Rattle.std.proofs.lemmas.Iterator.Adapters.{position_from-zero}
+use Rattle.contents.specs.Search.{first_of}
 use Rattle.contents.specs.declared.records.Entry.{Entry}
 use Rattle.contents.specs.declared.records.KeySet.{KeySet}
 use Rattle.contents.specs.Records.{name_of, bears, has_version}
 use Rattle.contents.specs.Held.{all, any, distinct, same_name, same_version}
 
 pub all_push : {X : Type 0} (p : X → Bool) (xs : List X) (y : X) → all p xs ≡ true → p y ≡ true → all p (xs ++ y ∷ []) ≡ true
-all_push p [] y h e = and_from (p y) true e refl
-all_push p (x ∷ xs) y h e =
-    let a = and_parts (p x) (all p xs) h in
-    and_from (p x) (all p (xs ++ y ∷ [])) a.0 (all_push p xs y a.1 e)
+all_push p xs y h e = list_all-append p xs (y ∷ []) ∙ and_from (all p xs) (p y && true) h (and_from (p y) true e refl)
 
 pub all_at : {X : Type 0} (p : X → Bool) (xs ys : List X) (y : X) → all p (xs ++ y ∷ ys) ≡ true → p y ≡ true
-all_at p [] ys y h = (and_parts (p y) (all p ys) h).0
-all_at p (x ∷ xs) ys y h = all_at p xs ys y (and_parts (p x) (all p (xs ++ y ∷ ys)) h).1
+all_at p xs ys y h = (and_parts (p y) (all p ys) (and_parts (all p xs) (all p (y ∷ ys)) (sym (list_all-append p xs (y ∷ ys)) ∙ h)).1).0
 
 any_push : {X : Type 0} (p : X → Bool) (xs : List X) (y : X) → any p xs ≡ false → p y ≡ false → any p (xs ++ y ∷ []) ≡ false
-any_push p [] y h e = or_from (p y) false e refl
-any_push p (x ∷ xs) y h e =
-    let a = or_parts (p x) (any p xs) h in
-    or_from (p x) (any p (xs ++ y ∷ [])) a.0 (any_push p xs y a.1 e)
+any_push p xs y h e = list_any-append p xs (y ∷ []) ∙ or_from (any p xs) (p y || false) h (or_from (p y) false e refl)
 
 any_at : {X : Type 0} (p : X → Bool) (xs ys : List X) (y : X) → any p (xs ++ y ∷ ys) ≡ false → p y ≡ false
-any_at p [] ys y h = (or_parts (p y) (any p ys) h).0
-any_at p (x ∷ xs) ys y h = any_at p xs ys y (or_parts (p x) (any p (xs ++ y ∷ ys)) h).1
+any_at p xs ys y h = (or_parts (p y) (any p ys) (or_parts (any p xs) (any p (y ∷ ys)) (sym (list_any-append p xs (y ∷ ys)) ∙ h)).1).0
 
 pub any_alike : {X : Type 0} (p q : X → Bool) (xs : List X) → ((x : X) → p x ≡ q x) → any p xs ≡ any q xs
 any_alike p q [] e = refl
@@ -52,15 +47,15 @@ distinct_at same (x ∷ xs) ys y h =
     (any_at (same x) xs ys y (not-true (any (same x) (xs ++ y ∷ ys)) a.0))
     (distinct_at same xs ys y a.1)
 
-first_any : {X : Type 0} (p : X → Bool) (xs : List X) (i : ℕ) → is_some (first_from p i xs) ≡ any p xs
+first_any : {X : Type 0} (p : X → Bool) (xs : List X) (i : ℕ) → is_some (position_from p i xs) ≡ any p xs
 first_any p [] i = refl
 first_any p (x ∷ xs) i =
-    let P : Bool → Type 0 = λ b. is_some (cond b (Some i) (first_from p (i + 1) xs)) ≡ (b || any p xs) in
+    let P : Bool → Type 0 = λ b. is_some (cond b (Some i) (position_from p (i + 1) xs)) ≡ (b || any p xs) in
     elim (p x) as P [ true ↦ refl | false ↦ first_any p xs (i + 1) ]
 
 -- a search finds something where any element passes
 pub found_any : {X : Type 0} (p : X → Bool) (xs : List X) → is_some (first_of p xs) ≡ any p xs
-found_any p xs = first_any p xs 0
+found_any p xs = ap is_some (position_from-zero p xs) ∙ first_any p xs 0
 
 -- the same test from either side
 eqb_flip : (a b : ℕ) → eqb a b ≡ eqb b a

@@ -4,11 +4,12 @@ use Rattle.std.specs.Borrow.{Bor}
 use Rattle.std.specs.Option.{option_map}
 use Rattle.answers.specs.declared.Refusal.{Refusal}
 use Rattle.contents.specs.declared.image.draft.Draft.{Draft}
-use Rattle.contents.specs.Held.{Held, holding}
+use Rattle.contents.specs.Held.{Held}
 use Rattle.contents.specs.Image.{Step, behind}
+use Rattle.contents.specs.Records.{listed}
 
 abbrev pub drafted : Draft → Held
-drafted d = holding d.state d.diversification d.sets d.registry
+drafted d = record { state = d.state; diversification = d.diversification; sets = listed d.sets; entries = listed d.registry }
 
 -- a draft, or a refusal, as a reading gives it
 abbrev pub Drafts : Result Draft Refusal → Result Held Refusal → Type 0

@@ -1,5 +1,6 @@
 -- What a card holds, and what always holds of it.
-use Rattle.std.specs.Prelude.{ℕ, ◌-◌, Bool, true, false, not, ◌&&◌, ◌||◌, List, [], ◌∷◌, ◌++◌, length, replicate, ◌==◌, nat_le}
+use Rattle.std.specs.Prelude.{ℕ, ◌-◌, Bool, true, false, not, ◌&&◌, List, [], ◌∷◌, ◌++◌, length, replicate, ◌==◌, nat_le}
+use Rattle.std.specs.List.{list_all, list_any}
 use Rattle.std.specs.Str.{bytes_eq}
 use Rattle.contents.specs.declared.life.CardState.{CardState}
 use Rattle.contents.specs.declared.life.EntryKind.{EntryKind}
@@ -9,18 +10,13 @@ use Rattle.contents.specs.declared.life.EntryState.TheVariants.{Loaded, Installe
 use Rattle.contents.specs.declared.records.Aid.{Aid}
 use Rattle.contents.specs.declared.records.Entry.{Entry}
 use Rattle.contents.specs.declared.records.KeySet.{KeySet}
-use Rattle.contents.specs.declared.records.Registry.{Registry}
-use Rattle.contents.specs.declared.records.KeySets.{KeySets}
-use Rattle.contents.specs.Records.{aid_bytes, name_of, card_manager, bears, has_version, listed, in_use}
+use Rattle.contents.specs.Records.{aid_bytes, name_of, card_manager, bears, has_version}
 
 pub record Held : Type 0 where
   pub state : CardState
   pub diversification : List ℕ
   pub sets : List KeySet
   pub entries : List Entry
-
-abbrev pub holding : CardState → List ℕ → KeySets → Registry → Held
-holding state diversification sets registry = record { state = state; diversification = diversification; sets = in_use sets; entries = listed registry }
 
 -- the bytes of a name, and 00 at the other places of sixteen
 abbrev pub filled_name : Aid → List ℕ
@@ -59,15 +55,13 @@ sound_entry e =
 abbrev pub sound_key_set : KeySet → Bool
 sound_key_set k =
     nat_le 1 k.version
-    && (nat_le k.version 0x7F && (length k.enc == 16 && (length k.mac == 16 && length k.kek == 16)))
+    && (nat_le k.version 0x7F && (length k.keys.enc == 16 && (length k.keys.mac == 16 && length k.keys.kek == 16)))
 
 abbrev pub all : {X : Type 0} → (X → Bool) → List X → Bool
-all p [] = true
-all p (x ∷ xs) = p x && all p xs
+all p xs = list_all p xs
 
 abbrev pub any : {X : Type 0} → (X → Bool) → List X → Bool
-any p [] = false
-any p (x ∷ xs) = p x || any p xs
+any p xs = list_any p xs
 
 -- no element is the same as a later one
 abbrev pub distinct : {X : Type 0} → (X → X → Bool) → List X → Bool

@@ -21,7 +21,7 @@ abbrev pub header_bytes : CardState → List ℕ → List ℕ
 header_bytes state diversification = 0x01 ∷ card_state_value state ∷ diversification
 
 abbrev pub key_set_bytes : KeySet → List ℕ
-key_set_bytes k = 0x02 ∷ k.version ∷ (k.enc ++ (k.mac ++ k.kek))
+key_set_bytes k = 0x02 ∷ k.version ∷ (k.keys.enc ++ (k.keys.mac ++ k.keys.kek))
 
 abbrev pub entry_bytes : Entry → List ℕ
 entry_bytes e =
@@ -52,7 +52,7 @@ and_then (Some x) f = f x
 -- 49 bytes: the version and the three keys
 abbrev pub key_set_of : List ℕ → KeySet
 key_set_of body =
-    record { version = slice_index body 0; enc = take 16 (drop 1 body); mac = take 16 (drop 17 body); kek = take 16 (drop 33 body) }
+    record { version = slice_index body 0; keys = record { enc = take 16 (drop 1 body); mac = take 16 (drop 17 body); kek = take 16 (drop 33 body) } }
 
 abbrev pub key_set_in : List ℕ → Option KeySet
 key_set_in body = allowed sound_key_set (key_set_of body)

@@ -1,11 +1,16 @@
 -- The life cycle states of a card and of what is registered on it, and their values.
-use Rattle.std.specs.Prelude.{ℕ, cond, Some, None, Option, ◌==◌}
+use Rattle.std.specs.Prelude.{◌≡◌, ℕ, cond, Some, None, Option, Result, MatchResult, ◌==◌}
 use Rattle.contents.specs.declared.life.CardState.{CardState}
 use Rattle.contents.specs.declared.life.CardState.TheVariants.{OpReady, Initialized, Secured, CmLocked, Terminated}
 use Rattle.contents.specs.declared.life.EntryKind.{EntryKind}
 use Rattle.contents.specs.declared.life.EntryKind.TheVariants.{LoadFile, Application}
 use Rattle.contents.specs.declared.life.EntryState.{EntryState}
+use Rattle.contents.specs.declared.life.UnknownValue.{UnknownValue}
 use Rattle.contents.specs.declared.life.EntryState.TheVariants.{Loaded, Installed, Selectable, Personalized, Blocked}
+
+-- the result is what a byte names, or says which byte names nothing
+abbrev pub Names : {X : Type 0} → ℕ → Option X → Result X UnknownValue → Type 0
+Names value named r = MatchResult r (λ x. named ≡ Some x) (λ e. (named ≡ None) × (e.0 ≡ value))
 
 abbrev pub card_state_value : CardState → ℕ
 card_state_value OpReady = 0x01

@@ -9,8 +9,7 @@ use Rattle.contents.specs.declared.life.EntryState.TheVariants.{Loaded}
 use Rattle.contents.specs.declared.records.Aid.{Aid}
 use Rattle.contents.specs.declared.records.Entry.{Entry}
 use Rattle.contents.specs.declared.records.KeySet.{KeySet}
-use Rattle.contents.specs.declared.records.Registry.{Registry}
-use Rattle.contents.specs.declared.records.KeySets.{KeySets}
+use Rattle.contents.specs.declared.table.Table.{Table}
 
 -- the bytes of an AID, without what fills its sixteen places
 abbrev pub aid_bytes : Aid → List ℕ
@@ -41,14 +40,11 @@ abbrev pub no_entry : Entry
 no_entry = record { kind = LoadFile; aid = record { bytes = []; len = 0 }; state = Loaded; privileges = 0 }
 
 abbrev pub no_key_set : KeySet
-no_key_set = record { version = 0; enc = []; mac = []; kek = [] }
+no_key_set = record { version = 0; keys = record { enc = []; mac = []; kek = [] } }
 
--- the places that are in use, in order
-abbrev pub listed : Registry → List Entry
-listed r = take r.count r.entries
-
-abbrev pub in_use : KeySets → List KeySet
-in_use k = take k.count k.sets
+-- the records at the places that are in use, in order
+abbrev pub listed : {R : Type 0} {N : ℕ} → Table R N → List R
+listed t = take t.count t.records
 
 -- the record at a place that a search found
 abbrev pub set_at : List KeySet → Option ℕ → Option KeySet

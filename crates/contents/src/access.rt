@@ -13,13 +13,13 @@ impl Contents {
         ensures value { result ≡ (held self.now).state }
         ensures sound { sound (held self.now) ≡ true }
     {
-        self.state
+        self.draft.state
     }
 
     pub fn diversification(&self) -> [u8; 10]
         ensures { result ≡ (held self.now).diversification }
     {
-        self.diversification
+        self.draft.diversification
     }
 
     // The key set that a version asks for; 00 asks for the first.
@@ -27,16 +27,16 @@ impl Contents {
         ensures { result ≡ chosen_set version (held self.now).sets }
     {
         if version == 0 {
-            return self.sets.first();
+            return self.draft.sets.listed().first().copied();
         }
-        self.sets.of_version(version)
+        self.draft.sets.named(version)
     }
 
     // The entry of this name.
     pub fn entry(&self, name: &[u8]) -> Option<Entry>
         ensures { result ≡ entry_named name.now (held self.now).entries }
     {
-        self.registry.of_name(name)
+        self.draft.registry.named(name)
     }
 
     // The registered load files and applications, in order.
@@ -45,27 +45,27 @@ impl Contents {
         ensures few { length result.now ≤ 12 }
         ensures sound { all sound_entry result.now ≡ true }
     {
-        self.registry.listed()
+        self.draft.registry.listed()
     }
 
     // Whether an entry bears this name.
     pub fn has_name(&self, name: &[u8]) -> bool
         ensures { result ≡ any (bears name.now) (held self.now).entries }
     {
-        self.registry.has_name(name)
+        self.draft.registry.has(name)
     }
 
     // Whether a key set has this version.
     pub fn has_version(&self, version: u8) -> bool
         ensures { result ≡ any (has_version version) (held self.now).sets }
     {
-        self.sets.has_version(version)
+        self.draft.sets.has(version)
     }
 
     // How many key sets there are.
     pub fn key_set_count(&self) -> usize
         ensures { result ≡ length (held self.now).sets }
     {
-        self.sets.listed().len()
+        self.draft.sets.listed().len()
     }
 }

@@ -14,7 +14,7 @@ impl Contents {
     pub fn set_state(&mut self, state: CardState)
         ensures { held self.new ≡ in_card_state state (held self.old) }
     {
-        self.state = state;
+        self.draft.state = state;
     }
 
     // Puts the application of this name into a state. Nothing moves where there is no such application, or the state is
@@ -23,7 +23,7 @@ impl Contents {
         ensures taken { result ≡ takes_state state (entry_named name.now (held self.old).entries) }
         ensures held { held self.new ≡ (if result then in_state_named name.now state (held self.old) else held self.old) }
     {
-        self.registry.set_application_state(name, state)
+        self.draft.registry.set_application_state(name, state)
     }
 
     // Adds an application behind the other entries. Nothing moves where the name has not the length of one, is the card
@@ -32,7 +32,7 @@ impl Contents {
         ensures taken { result ≡ admits name.now state (held self.old).entries }
         ensures held { held self.new ≡ (if result then with_application name.now state privileges (held self.old) else held self.old) }
     {
-        self.registry.add_application(name, state, privileges)
+        self.draft.registry.add_application(name, state, privileges)
     }
 
     // Takes out the entry of this name. Nothing moves where there is none.
@@ -40,7 +40,7 @@ impl Contents {
         ensures found { result ≡ is_some (first_of (bears name.now) (held self.old).entries) }
         ensures held { held self.new ≡ without_entry name.now (held self.old) }
     {
-        self.registry.remove_named(name)
+        self.draft.registry.remove_named(name)
     }
 
     // Adds a key set behind the others. Nothing moves where its version is none or is in use, and where there are four.
@@ -48,7 +48,7 @@ impl Contents {
         ensures taken { result ≡ admits_set set.version (held self.old).sets }
         ensures held { held self.new ≡ (if result then with_new_set set (held self.old) else held self.old) }
     {
-        self.sets.add(set)
+        self.draft.sets.add(set)
     }
 
     // Puts a key set in the place of the one of this version. Nothing moves where there is none, and where the new
@@ -57,6 +57,6 @@ impl Contents {
         ensures taken { result ≡ replaces_set version set.version (held self.old).sets }
         ensures held { held self.new ≡ (if result then with_replaced_set version set (held self.old) else held self.old) }
     {
-        self.sets.replace(version, set)
+        self.draft.sets.replace(version, set)
     }
 }

@@ -1,21 +1,24 @@
 // The image of a card's contents, in and out.
-ghost use Rattle.std.specs.Prelude.{◌≡◌, ◌≤◌, length, IfOk, Result, MatchResult};
-ghost use Rattle.answers.specs.Areas.{fronted};
+ghost use Rattle.std.specs.Prelude.{◌≡◌, IfOk, Result, MatchResult};
 ghost use Rattle.contents.specs.Contents.{held};
 ghost use Rattle.contents.specs.Image.{read_image, image_bytes, image_written};
 
 use crate::Contents;
 use crate::image::draft::Draft;
-use crate::image::writing::{put, write_all};
+use crate::image::writing::{append, write_all};
 use answers::Refusal;
+use arrayvec::ArrayVec;
 
-mod draft;
+pub(crate) mod draft;
 mod fields;
 mod reading;
 mod writing;
 
-// Header, four key sets, twelve entries and the last record.
+// The header, four key sets, twelve entries and the last record: no image is longer.
 const LONGEST_IMAGE: usize = 465;
+
+// An image that is being written, in memory of its own.
+type Image = ArrayVec<u8, LONGEST_IMAGE>;
 
 impl Contents {
     // The contents that an image stores, or the refusal of its first bad record.
@@ -23,31 +26,22 @@ impl Contents {
         ensures contents { MatchResult result (λ c. read_image image.now ≡ Result.Ok (held c)) (λ e. read_image image.now ≡ Result.Err e) }
         ensures back { IfOk result (λ c. image_bytes (held c) ≡ image.now) }
     {
-        let Draft {
-            state,
-            diversification,
-            sets,
-            registry,
-        } = Draft::from_image(image)?;
         Ok(Contents {
-            state,
-            diversification,
-            sets,
-            registry,
+            draft: Draft::from_image(image)?,
         })
     }
 
-    // Writes the image at the front of an area that is long enough for any; the image's length.
-    fn write_whole(&self, area: &mut [u8]) -> usize
-        requires { 465 ≤ length area.old }
-        ensures area { area.new ≡ fronted area.old (image_bytes (held self.now)) }
-        ensures end { result ≡ length (image_bytes (held self.now)) }
+    // The bytes of the image.
+    fn image(&self) -> Image
+        ensures { result.items ≡ image_bytes (held self.now) }
     {
-        let at = put(area, 0, &[0x01, self.state.value()]);
-        let at = put(area, at, &self.diversification);
-        let at = write_all(self.sets.listed(), area, at);
-        let at = write_all(self.registry.listed(), area, at);
-        put(area, at, &[0x00])
+        let mut image = Image::new();
+        append(&mut image, &[0x01, u8::from(self.draft.state)]);
+        append(&mut image, &self.draft.diversification);
+        write_all(&mut image, self.draft.sets.listed());
+        write_all(&mut image, self.draft.registry.listed());
+        append(&mut image, &[0x00]);
+        image
     }
 
     // Writes the image at the front of an area of at least 465 bytes; the image's length.
@@ -58,6 +52,8 @@ impl Contents {
         if area.len() < LONGEST_IMAGE {
             return Err(Refusal::AreaTooShort);
         }
-        Ok(self.write_whole(area))
+        let image = self.image();
+        area[..image.len()].copy_from_slice(&image);
+        Ok(image.len())
     }
 }

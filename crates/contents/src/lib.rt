@@ -1,11 +1,11 @@
 // What a card holds: its life cycle state, diversification data, key sets and registry; and the image that stores it.
 #![tactic(auto)]
 
-ghost use Rattle.std.specs.Prelude.{◌≡◌, ◌≤◌, true};
-ghost use Rattle.contents.specs.Held.{holding, sound};
+ghost use Rattle.std.specs.Prelude.{◌≡◌, true};
+ghost use Rattle.contents.specs.Draft.{drafted};
+ghost use Rattle.contents.specs.Held.{sound};
 
-use crate::life::CardState;
-use crate::records::{KeySets, Registry};
+use crate::image::draft::Draft;
 
 pub mod access;
 pub mod changes;
@@ -13,14 +13,11 @@ pub mod image;
 pub mod life;
 pub mod records;
 pub mod search;
+pub mod table;
 
 // The contents of a card. They are always sound: see `sound`.
 #[derive(Clone, Copy)]
 pub struct Contents {
-    state: CardState,
-    diversification: [u8; 10],
-    sets: KeySets,
-    registry: Registry,
-    ghost counted: { (sets.count ≤ 4) × (registry.count ≤ 12) },
-    ghost ok: { sound (holding state diversification sets registry) ≡ true },
+    draft: Draft,
+    ghost ok: { sound (drafted draft) ≡ true },
 }

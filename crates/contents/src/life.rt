@@ -1,66 +1,69 @@
 // Life cycle states, and the values by which images and commands name them.
 ghost use Rattle.std.specs.Prelude.{◌≡◌};
-ghost use Rattle.contents.specs.Life.{card_state_value, card_state, kind_value, entry_kind, entry_state_value, entry_state};
+ghost use Rattle.contents.specs.Life.{Names, card_state_value, card_state, kind_value, entry_kind, entry_state_value, entry_state};
+
+// A byte that names no state, or no kind.
+#[derive(Clone, Copy, PartialEq, Eq, Debug)]
+pub struct UnknownValue(pub u8);
 
 #[derive(Clone, Copy, PartialEq, Eq, Debug)]
 pub enum CardState {
-    OpReady,
-    Initialized,
-    Secured,
-    CmLocked,
-    Terminated,
+    OpReady = 0x01,
+    Initialized = 0x07,
+    Secured = 0x0F,
+    CmLocked = 0x7F,
+    Terminated = 0xFF,
 }
 
-impl CardState {
-    pub fn value(self) -> u8
-        ensures { result ≡ card_state_value self }
-    {
-        match self {
-            CardState::OpReady => 0x01,
-            CardState::Initialized => 0x07,
-            CardState::Secured => 0x0F,
-            CardState::CmLocked => 0x7F,
-            CardState::Terminated => 0xFF,
-        }
-    }
+impl From<CardState> for u8 {
+    ghost from_gives = { λ state value. value ≡ card_state_value state };
 
-    pub fn from_value(value: u8) -> Option<CardState>
-        ensures { result ≡ card_state value }
-    {
+    fn from(state: CardState) -> u8 {
+        state as u8
+    }
+}
+
+impl TryFrom<u8> for CardState {
+    type Error = UnknownValue;
+
+    ghost try_from_gives = { λ value r. Names value (card_state value) r };
+
+    fn try_from(value: u8) -> Result<CardState, UnknownValue> {
         match value {
-            0x01 => Some(CardState::OpReady),
-            0x07 => Some(CardState::Initialized),
-            0x0F => Some(CardState::Secured),
-            0x7F => Some(CardState::CmLocked),
-            0xFF => Some(CardState::Terminated),
-            _ => None,
+            0x01 => Ok(CardState::OpReady),
+            0x07 => Ok(CardState::Initialized),
+            0x0F => Ok(CardState::Secured),
+            0x7F => Ok(CardState::CmLocked),
+            0xFF => Ok(CardState::Terminated),
+            _ => Err(UnknownValue(value)),
         }
     }
 }
 
 #[derive(Clone, Copy, PartialEq, Eq, Debug)]
 pub enum EntryKind {
-    LoadFile,
-    Application,
+    LoadFile = 0x01,
+    Application = 0x02,
 }
 
-impl EntryKind {
-    pub fn value(self) -> u8
-        ensures { result ≡ kind_value self }
-    {
-        match self {
-            EntryKind::LoadFile => 0x01,
-            EntryKind::Application => 0x02,
-        }
-    }
+impl From<EntryKind> for u8 {
+    ghost from_gives = { λ kind value. value ≡ kind_value kind };
 
-    pub fn from_value(value: u8) -> Option<EntryKind>
-        ensures { result ≡ entry_kind value }
-    {
+    fn from(kind: EntryKind) -> u8 {
+        kind as u8
+    }
+}
+
+impl TryFrom<u8> for EntryKind {
+    type Error = UnknownValue;
+
+    ghost try_from_gives = { λ value r. Names value (entry_kind value) r };
+
+    fn try_from(value: u8) -> Result<EntryKind, UnknownValue> {
         match value {
-            0x01 => Some(EntryKind::LoadFile),
-            0x02 => Some(EntryKind::Application),
-            _ => None,
+            0x01 => Ok(EntryKind::LoadFile),
+            0x02 => Ok(EntryKind::Application),
+            _ => Err(UnknownValue(value)),
         }
     }
 }
@@ -68,45 +71,35 @@ impl EntryKind {
 // The state of a load file (always `Loaded`) or of an application (one of the other four).
 #[derive(Clone, Copy, PartialEq, Eq, Debug)]
 pub enum EntryState {
-    Loaded,
-    Installed,
-    Selectable,
-    Personalized,
-    Blocked,
+    Loaded = 0x01,
+    Installed = 0x03,
+    Selectable = 0x07,
+    Personalized = 0x0F,
+    Blocked = 0x7F,
 }
 
-impl EntryState {
-    pub fn value(self) -> u8
-        ensures { result ≡ entry_state_value self }
-    {
-        match self {
-            EntryState::Loaded => 0x01,
-            EntryState::Installed => 0x03,
-            EntryState::Selectable => 0x07,
-            EntryState::Personalized => 0x0F,
-            EntryState::Blocked => 0x7F,
-        }
-    }
+impl From<EntryState> for u8 {
+    ghost from_gives = { λ state value. value ≡ entry_state_value state };
 
-    // The state that a byte names for an entry of this kind.
-    pub fn from_value(kind: EntryKind, value: u8) -> Option<EntryState>
-        ensures { result ≡ entry_state kind value }
-    {
-        match kind {
-            EntryKind::LoadFile => {
-                if value == 0x01 {
-                    Some(EntryState::Loaded)
-                } else {
-                    None
-                }
-            }
-            EntryKind::Application => match value {
-                0x03 => Some(EntryState::Installed),
-                0x07 => Some(EntryState::Selectable),
-                0x0F => Some(EntryState::Personalized),
-                0x7F => Some(EntryState::Blocked),
-                _ => None,
-            },
+    fn from(state: EntryState) -> u8 {
+        state as u8
+    }
+}
+
+// The state that a byte names for an entry of a kind.
+impl TryFrom<(EntryKind, u8)> for EntryState {
+    type Error = UnknownValue;
+
+    ghost try_from_gives = { λ named r. Names named.1 (entry_state named.0 named.1) r };
+
+    fn try_from((kind, value): (EntryKind, u8)) -> Result<EntryState, UnknownValue> {
+        match (kind, value) {
+            (EntryKind::LoadFile, 0x01) => Ok(EntryState::Loaded),
+            (EntryKind::Application, 0x03) => Ok(EntryState::Installed),
+            (EntryKind::Application, 0x07) => Ok(EntryState::Selectable),
+            (EntryKind::Application, 0x0F) => Ok(EntryState::Personalized),
+            (EntryKind::Application, 0x7F) => Ok(EntryState::Blocked),
+            _ => Err(UnknownValue(value)),
         }
     }
 }

@@ -15,10 +15,5 @@ pub fn find<Q: Copy, N: Named<Q>>(records: &[N], name: Q) -> Option<usize>
     ensures first { result ≡ first_of (λ x. N.Named.named x name) records.now }
     ensures within { IfSome result (λ i. i < length records.now) }
 {
-    for (i, record) in records.iter().enumerate() {
-        if record.bears(name) {
-            return Some(i);
-        }
-    }
-    None
+    records.iter().position(|record| record.bears(name))
 }

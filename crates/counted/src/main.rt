@@ -31,7 +31,7 @@ fn try_source(rt: &HostRuntime, key: &[u8], start: &[u8]) -> io::Result<()> {
     println!(rt; "a key of {} bytes, a start of {}", key.len(), start.len())?;
     match Counting::<TripleDes>::make(key, start) {
         Ok(source) => draw_all(rt, source),
-        Err(refusal) => println!(rt; "refused: {}", refusal.number()),
+        Err(refusal) => println!(rt; "refused: {}", u8::from(refusal)),
     }
 }
 

@@ -1,7 +1,7 @@
 // Challenges that are counted: enciphered blocks, each one more than the block before it.
 #![tactic(auto)]
 
-ghost use Rattle.std.specs.Prelude.{◌≡◌, length, take, if◌then◌else◌, Some, None, Ok, Err, MatchResult, nat_eq};
+ghost use Rattle.std.specs.Prelude.{◌≡◌, take, Ok, Err, MatchResult};
 ghost use Rattle.std.proofs.Common.{sym};
 ghost use Rattle.counting.specs.Counted.{Distinct, counted_from, counted_past, source_of};
 ghost use Rattle.std.proofs.lemmas.List.{take-append-drop};
@@ -23,40 +23,15 @@ pub struct Counting<C: Cipher> {
     drawn: usize,
 }
 
-// The sixteen bytes that these are, if they are sixteen.
-fn sixteen(bytes: &[u8]) -> Option<[u8; 16]>
-    ensures { result ≡ (if nat_eq (length bytes.now) 16 then Some bytes.now else None) }
-{
-    if bytes.len() != 16 {
-        return None;
-    }
-    let mut sixteen = [0; 16];
-    sixteen.copy_from_slice(bytes);
-    Some(sixteen)
-}
-
-// The eight bytes that these are, if they are eight.
-fn eight(bytes: &[u8]) -> Option<[u8; 8]>
-    ensures { result ≡ (if nat_eq (length bytes.now) 8 then Some bytes.now else None) }
-{
-    if bytes.len() != 8 {
-        return None;
-    }
-    let mut eight = [0; 8];
-    eight.copy_from_slice(bytes);
-    Some(eight)
-}
-
 impl<C: Cipher> Counting<C> {
     // A source of a key of sixteen bytes and a start block of eight, with all its challenges to come.
     pub fn make(key: &[u8], start: &[u8]) -> Result<Counting<C>, Refusal>
-        ensures coming { MatchResult result (λ s. Ok (counted_past (C.Cipher.enciphering s.keys) s.start s.drawn) ≡ source_of C.Cipher.enc key.now start.now) (λ e. Err e ≡ source_of C.Cipher.enc key.now start.now) }
-        ensures whole { MatchResult result (λ s. Ok (counted_from (C.Cipher.enciphering s.keys) s.start) ≡ source_of C.Cipher.enc key.now start.now) (λ e. Err e ≡ source_of C.Cipher.enc key.now start.now) }
-        ensures distinct { Distinct C.Cipher.enc }
+        ensures coming { MatchResult result (λ s. Ok (counted_past (C.Cipher.enciphering s.keys) s.start s.drawn) ≡ source_of C.algorithm.enc key.now start.now) (λ e. Err e ≡ source_of C.algorithm.enc key.now start.now) }
+        ensures whole { MatchResult result (λ s. Ok (counted_from (C.Cipher.enciphering s.keys) s.start) ≡ source_of C.algorithm.enc key.now start.now) (λ e. Err e ≡ source_of C.algorithm.enc key.now start.now) }
+        ensures distinct { Distinct C.algorithm.enc }
     {
-        let (Some(key), Some(start)) = (sixteen(key), eight(start)) else {
-            return Err(Refusal::IllArgument);
-        };
+        let key = <[u8; 16]>::try_from(key).map_err(|_| Refusal::IllArgument)?;
+        let start = <[u8; 8]>::try_from(start).map_err(|_| Refusal::IllArgument)?;
         Ok(Counting {
             keys: C::expand(&key),
             start: value_of(&start),

@@ -4,7 +4,8 @@
 mod vectors;
 
 use anyhow::anyhow;
-use manager_script::run;
+use apdu::Management;
+use script::run;
 use std::io::{Read, Write};
 use xtea::Xtea;
 
@@ -14,7 +15,7 @@ fn play(rt: &HostRuntime) -> anyhow::Result<()> {
     }
     let mut script = Vec::new(rt.alloc());
     let _ = rt.stdin().read_to_end(&mut script)?;
-    let rows = run::<Xtea>(rt.alloc(), script.as_slice())?;
+    let rows = run::<Xtea, Management>(rt.alloc(), script.as_slice())?;
     rt.stdout().write_all(rows.as_slice())?;
     Ok(())
 }

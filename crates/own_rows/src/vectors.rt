@@ -1,5 +1,4 @@
 // Published vectors of XTEA.
-use bits::octets_of;
 use cipher::Cipher;
 use xtea::Xtea;
 
@@ -20,15 +19,11 @@ const VECTORS: [([u8; 16], u64, u64); 6] = [
 // Whether a vector agrees in both directions.
 fn agrees(key: &[u8; 16], block: u64, enciphered: u64) -> bool {
     let keys = Xtea::expand(key);
-    let plain = octets_of(block);
-    let closed = octets_of(enciphered);
+    let plain = block.to_be_bytes();
+    let closed = enciphered.to_be_bytes();
     Xtea::encipher(&keys, &plain) == closed && Xtea::decipher(&keys, &closed) == plain
 }
 
 pub fn all_agree() -> bool {
-    let mut all = true;
-    for (key, block, enciphered) in &VECTORS {
-        all = all && agrees(key, *block, *enciphered);
-    }
-    all
+    VECTORS.iter().all(|(key, block, enciphered)| agrees(key, *block, *enciphered))
 }

@@ -2,18 +2,17 @@
 // command that went over is a line.
 #![tactic(auto)]
 
-mod hex;
 mod scene;
 
 use challenge::recorded::Recorded;
-use hex::Hex;
+use hex::ToHex;
 use runs::conduct::{Conversation, Talk, conduct};
 use scp01::Level;
 use std::io;
 use xtea::Xtea;
 
 fn print_line(rt: &HostRuntime, bytes: &[u8]) -> io::Result<()> {
-    let line = Hex { bytes };
+    let line = bytes.encode_hex_upper(rt.alloc())?;
     println!(rt; "{line}")
 }
 
@@ -46,7 +45,7 @@ fn write_script(rt: &HostRuntime) -> anyhow::Result<()> {
             Ok(())
         }
         Err(failure) => {
-            let number = failure.trouble.number();
+            let number = u8::from(failure.trouble);
             println!(rt; "no session: trouble {number}")?;
             Ok(())
         }

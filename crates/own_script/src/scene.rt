@@ -1,4 +1,5 @@
 // What the script is about: a card, its challenges, and what a terminal sends to it.
+use cipher::Keys;
 use contents::records::KeySet;
 
 // An OP_READY card: its state and diversification data; key set 01; a load file.
@@ -14,9 +15,11 @@ pub const HOST_CHALLENGE: [u8; 8] = *b"\x11\x22\x33\x44\x55\x66\x77\x88";
 
 pub const KEYS: KeySet = KeySet {
     version: 0x01,
-    enc: *b"@ABCDEFGHIJKLMNO",
-    mac: *b"PQRSTUVWXYZ[\\]^_",
-    kek: *b"`abcdefghijklmno",
+    keys: Keys {
+        enc: *b"@ABCDEFGHIJKLMNO",
+        mac: *b"PQRSTUVWXYZ[\\]^_",
+        kek: *b"`abcdefghijklmno",
+    },
 };
 
 const LIST_LOAD_FILES: &[u8] = b"\x80\xF2\x20\x00\x02\x4F\x00";

@@ -1,3 +1,4 @@
 pub mod Parts
+pub mod Folds
 pub mod Keys
 pub mod Vectors

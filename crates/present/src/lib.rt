@@ -1,7 +1,7 @@
 // PRESENT with a key of 128 bits, as a block cipher.
 #![tactic(auto)]
 
-ghost use Rattle.std.specs.Prelude.{◌≡◌, true};
+ghost use Rattle.std.specs.Prelude.{◌≡◌, refl, true};
 ghost use Rattle.present.specs.Laws.{Layers, Deciphers, Enciphers};
 ghost use Rattle.present.specs.Present.{encipher, decipher, identifier};
 ghost use Rattle.present.specs.Published.{Published};
@@ -25,17 +25,17 @@ pub struct Present;
 impl Cipher for Present {
     const ALGORITHM: u8 = 0xF1;
 
+    ghost ALGORITHM = { identifier };
+
     type RoundKeys = RoundKeys;
 
-    ghost enc = { encipher };
-
-    ghost dec = { decipher };
-
-    ghost identifier = { identifier };
+    ghost algorithm = { record { enc = encipher; dec = decipher; identifier = identifier } };
 
     ghost enciphering = { enciphering };
 
     ghost deciphering = { deciphering };
+
+    ghost named = { refl };
 
     ghost undone = { deciphers };
 
@@ -44,10 +44,6 @@ impl Cipher for Present {
     ghost enciphered = { bytes_enciphered };
 
     ghost deciphered = { bytes_deciphered };
-
-    fn identify() -> u8 {
-        Self::ALGORITHM
-    }
 
     fn expand(key: &[u8; 16]) -> RoundKeys {
         expanded(key)

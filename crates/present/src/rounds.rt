@@ -9,20 +9,12 @@ use crate::layers::layered;
 pub fn rounds_of(later: &[u64; 31], x: u64) -> u64
     ensures { result ≡ run later.now x }
 {
-    let mut y = x;
-    for k in later {
-        y = layered(y) ^ *k;
-    }
-    y
+    later.iter().fold(x, |y, k| layered(y) ^ *k)
 }
 
 // The same rounds undone, the last first.
 pub fn rounds_back(later: &[u64; 31], x: u64) -> u64
     ensures { result ≡ run_back later.now x }
 {
-    let mut y = x;
-    for i in 0..31 {
-        y = unlayered(y ^ later[30 - i]);
-    }
-    y
+    later.iter().rev().fold(x, |y, k| unlayered(y ^ *k))
 }

@@ -48,9 +48,9 @@ fn later_keys(key: u128) -> [u64; 31]
 {
     let mut out = [0; 31];
     let mut k = key;
-    for i in 0..31 {
+    for (i, round_key) in out.iter_mut().enumerate() {
         k = updated(i as u32 + 1, k);
-        out[i] = (k >> 64) as u64;
+        *round_key = (k >> 64) as u64;
     }
     out
 }

@@ -1,6 +1,7 @@
 -- What a channel command moves: a changing command answered 9000 its change, and any other nothing.
-use Rattle.std.proofs.Common.{◌≡◌, ℕ, Bool, true, false, cond, not, ◌&&◌, ◌||◌, eqb, ltb, leb, List, [], ◌∷◌, length, get_or, take, drop, is_some, Some, None, Ok, Err, Option, sym, refl, ap, ◌∙◌, arith}
+use Rattle.std.proofs.Common.{◌≡◌, ℕ, Bool, true, false, cond, not, ◌&&◌, eqb, leb, List, [], ◌∷◌, length, get_or, take, drop, Some, None, Ok, Err, Option, sym, refl, ap, ◌∙◌, arith}
 use Rattle.std.proofs.lemmas.Bool.{eqb-true}
+use Rattle.std.proofs.lemmas.Bool.Decides.{nat_tests}
 use Rattle.std.specs.Option.{option_map}
 use Rattle.std.specs.Str.{bytes_eq}
 use Rattle.answers.specs.declared.StatusWord.{StatusWord}
@@ -17,17 +18,16 @@ use Rattle.contents.specs.declared.life.EntryState.TheVariants as entry
 use Rattle.contents.specs.declared.records.Entry.{Entry}
 use Rattle.contents.specs.declared.records.KeySet.{KeySet}
 use Rattle.contents.specs.Life.{card_state, card_state_value, application_state, entry_state_value}
-use Rattle.contents.specs.Search.{first_of}
 use Rattle.contents.specs.Held.{Held, any}
-use Rattle.contents.specs.Records.{card_manager, bears, has_version, entry_named, is_application}
-use Rattle.contents.specs.Changes.{in_card_state, in_state_named, with_application, without_entry, is_version, borne_by_other}
+use Rattle.contents.specs.Records.{card_manager, has_version, entry_named, is_application}
+use Rattle.contents.specs.Changes.{in_card_state, in_state_named, with_application, is_version, borne_by_other}
 use Rattle.rules.specs.declared.new_keys.KeyField.{KeyField}
 use Rattle.rules.specs.declared.new_keys.NewKeys.{NewKeys}
 use Rattle.rules.specs.Rules.{refused, unless_locked, is_locked, and_then}
 use Rattle.rules.specs.SetStatus.{of_value, card_steps, application_steps, card_step, application_step, card_stepped, card_set, application_stepped, entry_set, application_set, set_status}
-use Rattle.rules.specs.Install.{Asked, state_by_p1, installation_in, is_load_file, installed_by, installed_in, installed}
-use Rattle.rules.specs.Delete.{deleted_name, deleted_named, deleted}
-use Rattle.rules.specs.NewKeys.{field_of, receipt_of}
+use Rattle.rules.specs.Install.{Asked, state_by_p1, installation_in, installed_by, installed_in, installed}
+use Rattle.rules.specs.Delete.{deleted}
+use Rattle.rules.specs.NewKeys.{field_of}
 use Rattle.rules.specs.PutKey.{unwrapped, own_algorithm, with_set_put, set_put, placed_put, keys_put, body_put, key_put}
 use Rattle.rules.specs.Own.{own_rule, is_success, change_of, changed_by, with_status, with_installed, without_deleted, with_keys, keys_for, applied}
 
@@ -97,9 +97,7 @@ entry_moves h p2 name (Some e) =
     (refuses h _ sw.NotFound refl)
 
 by_p1 : (h f g : Held) (b d : Bool) (x y : Held × Reply) → Moves h f x → Moves h g y → Moves h (cond b f g) (cond b x (cond d y (refused h sw.WrongParameters)))
-by_p1 h f g true d x y p q = p
-by_p1 h f g false true x y p q = q
-by_p1 h f g false false x y p q = refuses h g sw.WrongParameters refl
+by_p1 h f g b d x y p q = record { contents = grind (arith, nat_tests, p.contents, q.contents) }
 
 status_moves : (h : Held) (p1 p2 : ℕ) (body : List ℕ) → Moves h (with_status p1 p2 body h) (set_status h p1 p2 body)
 unfolding set_status
@@ -112,19 +110,14 @@ status_moves h p1 p2 body =
 
 asked_moves : (h : Held) (s : EntryState) (o : Option Asked) → Moves h (changed_by (λ x. with_application x.name s x.privileges) o h) (installed_by h s o)
 asked_moves h s None = refuses h _ sw.WrongData refl
-asked_moves h s (Some x) =
-    moves_either h _ (is_load_file (entry_named x.file h.entries)) _ _
-    (moves_either h _ (bytes_eq x.name card_manager || any (bears x.name) h.entries) _ _ (refuses h _ sw.WrongData refl)
-    (moves_either h _ (ltb (length h.entries) 12) _ _ (answers h _ (0x00 ∷ [])) (refuses h _ sw.NotEnoughSpace refl)))
-    (refuses h _ sw.NotFound refl)
+asked_moves h s (Some x) = record { contents = grind (arith, nat_tests) }
 
 in_state_moves : (h : Held) (o : Option EntryState) (body : List ℕ) → Moves h (changed_by (λ (x : Asked). changed_by (λ s. with_application x.name s x.privileges) o) (installation_in body) h) (installed_in h o body)
 in_state_moves h None body = refuses h _ sw.WrongParameters refl
-in_state_moves h (Some s) body = moves_unlocked h _ _ (asked_moves h s (installation_in body))
+in_state_moves h (Some s) body = record { contents = grind (arith, nat_tests, (asked_moves h s (installation_in body)).contents) }
 
 by_p2 : (h g : Held) (b : Bool) (o : Option EntryState) (body : List ℕ) → Moves h g (installed_in h o body) → Moves h g (installed_in h (cond b o None) body)
-by_p2 h g true o body p = p
-by_p2 h g false o body p = refuses h g sw.WrongParameters refl
+by_p2 h g b o body p = record { contents = grind (arith, nat_tests, p.contents) }
 
 install_moves : (h : Held) (p1 p2 : ℕ) (body : List ℕ) → Moves h (with_installed p1 body h) (installed h p1 p2 body)
 unfolding installed
@@ -132,14 +125,9 @@ install_moves h p1 p2 body = by_p2 h _ (eqb p2 0x00) (state_by_p1 p1) body (in_s
 
 -- DELETE
 
-named_moves : (h : Held) (o : Option (List ℕ)) → Moves h (changed_by without_entry o h) (deleted_named h o)
-named_moves h None = refuses h _ sw.WrongData refl
-named_moves h (Some name) = moves_either h _ (is_some (first_of (bears name) h.entries)) _ _ (answers h _ (0x00 ∷ [])) (refuses h _ sw.NotFound refl)
-
 delete_moves : (h : Held) (p1 p2 : ℕ) (body : List ℕ) → Moves h (without_deleted body h) (deleted h p1 p2 body)
 unfolding deleted
-delete_moves h p1 p2 body =
-    moves_either h _ (eqb p1 0x00 && eqb p2 0x00) _ _ (moves_unlocked h _ _ (named_moves h (deleted_name body))) (refuses h _ sw.WrongParameters refl)
+delete_moves h p1 p2 body = record { contents = grind (arith, nat_tests) }
 
 -- PUT KEY
 
@@ -149,20 +137,17 @@ comes version e m k = record { version = version; enc = e; mac = m; kek = k }
 -- the set of the deciphered keys
 abbrev unwrapped_set : (List ℕ → List ℕ) → NewKeys → KeySet
 unwrapped_set dec n =
-    record { version = n.version; enc = unwrapped dec n.enc.key; mac = unwrapped dec n.mac.key; kek = unwrapped dec n.kek.key }
+    record { version = n.version; keys = record { enc = unwrapped dec n.enc.key; mac = unwrapped dec n.mac.key; kek = unwrapped dec n.kek.key } }
 
 -- a set of three keys, where three checks are passed
 abbrev set_if : ℕ → List ℕ → List ℕ → List ℕ → Bool → Bool → Bool → Option KeySet
 set_if version e m k a b d =
     and_then (cond a (Some e) None)
     (λ e. and_then (cond b (Some m) None)
-    (λ m. option_map (λ k. record { version = version; enc = e; mac = m; kek = k }) (cond d (Some k) None)))
+    (λ m. option_map (λ k. record { version = version; keys = record { enc = e; mac = m; kek = k } }) (cond d (Some k) None)))
 
-set_moves : (h : Held) (p1 : ℕ) (n : NewKeys) (version : ℕ) (e m k : List ℕ) (a b d : Bool) → Moves h (with_set_put p1 (record { version = version; enc = e; mac = m; kek = k }) h) (set_put h p1 n (set_if version e m k a b d))
-set_moves h p1 n version e m k true true true = answers h _ (receipt_of n)
-set_moves h p1 n version e m k true true false = refuses h _ sw.CheckValueWrong refl
-set_moves h p1 n version e m k true false d = refuses h _ sw.CheckValueWrong refl
-set_moves h p1 n version e m k false b d = refuses h _ sw.CheckValueWrong refl
+set_moves : (h : Held) (p1 : ℕ) (n : NewKeys) (version : ℕ) (e m k : List ℕ) (a b d : Bool) → Moves h (with_set_put p1 (record { version = version; keys = record { enc = e; mac = m; kek = k } }) h) (set_put h p1 n (set_if version e m k a b d))
+set_moves h p1 n version e m k a b d = record { contents = grind (arith, nat_tests) }
 
 abbrev passes : Algorithm → (List ℕ → List ℕ) → KeyField → Bool
 passes cipher dec f = bytes_eq (take 3 (cipher.enc (unwrapped dec f.key) zeros)) f.check
@@ -173,10 +158,7 @@ checked_moves cipher kek h p1 n =
     set_moves h p1 n n.version (unwrapped dec n.enc.key) (unwrapped dec n.mac.key) (unwrapped dec n.kek.key) (passes cipher dec n.enc) (passes cipher dec n.mac) (passes cipher dec n.kek)
 
 placed_moves : (cipher : Algorithm) (kek : List ℕ) (h g : Held) (p1 : ℕ) (n : NewKeys) (a b d : Bool) → Moves h g (placed_put cipher kek h p1 n (Ok tt)) → Moves h g (placed_put cipher kek h p1 n (cond a (Err sw.NotFound) (cond b (Err sw.WrongData) (cond d (Err sw.NotEnoughSpace) (Ok tt)))))
-placed_moves cipher kek h g p1 n true b d p = refuses h g sw.NotFound refl
-placed_moves cipher kek h g p1 n false true d p = refuses h g sw.WrongData refl
-placed_moves cipher kek h g p1 n false false true p = refuses h g sw.NotEnoughSpace refl
-placed_moves cipher kek h g p1 n false false false p = p
+placed_moves cipher kek h g p1 n a b d p = record { contents = grind (arith, nat_tests, p.contents) }
 
 keys_moves : (cipher : Algorithm) (kek : List ℕ) (h : Held) (p1 : ℕ) (n : NewKeys) → Moves h (with_set_put p1 (unwrapped_set (cipher.dec kek) n) h) (keys_put cipher kek h p1 n)
 keys_moves cipher kek h p1 n =
@@ -191,11 +173,7 @@ comes_if version e m k t a b d =
     cond t (and_then (cond a (Some e) None) (λ e. and_then (cond b (Some m) None) (λ m. option_map (λ k. record { version = version; enc = e; mac = m; kek = k }) (cond d (Some k) None)))) None
 
 body_moves : (cipher : Algorithm) (kek : List ℕ) (h g : Held) (p1 version : ℕ) (e m k : KeyField) (t a b d : Bool) → Moves h g (keys_put cipher kek h p1 (comes version e m k)) → Moves h g (body_put cipher kek h p1 (comes_if version e m k t a b d))
-body_moves cipher kek h g p1 version e m k true true true true p = p
-body_moves cipher kek h g p1 version e m k true true true false p = refuses h g sw.WrongData refl
-body_moves cipher kek h g p1 version e m k true true false d p = refuses h g sw.WrongData refl
-body_moves cipher kek h g p1 version e m k true false b d p = refuses h g sw.WrongData refl
-body_moves cipher kek h g p1 version e m k false a b d p = refuses h g sw.WrongData refl
+body_moves cipher kek h g p1 version e m k t a b d p = record { contents = grind (arith, nat_tests, p.contents) }
 
 -- whether a field has its two lengths
 abbrev formed : List ℕ → Bool

@@ -14,6 +14,10 @@ field_of f = record { algorithm = slice_index f 0; key = take 16 (drop 2 f); che
 abbrev pub field_in : List ℕ → Option KeyField
 field_in f = cond (slice_index f 1 == 0x10 && slice_index f 18 == 0x03) (Some (field_of f)) None
 
+-- a field alone
+abbrev pub whole_field : List ℕ → Option KeyField
+whole_field f = cond (length f == 22) (field_in f) None
+
 abbrev pub fields_in : List ℕ → Option NewKeys
 fields_in body =
     and_then (field_in (take 22 (drop 1 body)))

@@ -2,7 +2,8 @@
 use Rattle.std.specs.Prelude.{ℕ, Bool, true, false, cond, List, [], Some, None, Option, ◌==◌, slice_index}
 use Rattle.answers.specs.declared.StatusWord.{StatusWord}
 use Rattle.answers.specs.declared.StatusWord.TheVariants as sw
-use Rattle.answers.specs.Replies.{Reply}
+use Rattle.answers.specs.Replies.{Reply, only}
+use Rattle.apdu.specs.declared.NoCommand.{NoCommand}
 use Rattle.apdu.specs.declared.Management.{Management}
 use Rattle.apdu.specs.declared.Management.TheVariants.{GetStatus, SetStatus, Install, Delete, PutKey}
 use Rattle.cipher.specs.Blocks.{Algorithm}
@@ -19,13 +20,21 @@ use Rattle.rules.specs.Delete.{deleted_name, deleted}
 use Rattle.rules.specs.NewKeys.{key_receipt_bytes}
 use Rattle.rules.specs.PutKey.{deciphered_keys, key_set_of, with_set_put, key_put}
 
--- from what the card holds, the channel's key-encrypting key and the command to what the card holds then, and the reply
-unfoldable pub own_rule : Algorithm → List ℕ → Held → Management → ℕ → ℕ → List ℕ → Held × Reply
+-- what the commands M inside a channel do: from what the card holds, the channel's key-encrypting key and the command to what the
+-- card holds then, and the reply
+abbrev pub Rule : Type 0 → Type 0
+Rule M = Algorithm → List ℕ → Held → M → ℕ → ℕ → List ℕ → Held × Reply
+
+unfoldable pub own_rule : Rule Management
 own_rule cipher kek h GetStatus p1 p2 body = (h, got_status h p1 p2 body)
 own_rule cipher kek h SetStatus p1 p2 body = set_status h p1 p2 body
 own_rule cipher kek h Install p1 p2 body = installed h p1 p2 body
 own_rule cipher kek h Delete p1 p2 body = deleted h p1 p2 body
 own_rule cipher kek h PutKey p1 p2 body = key_put cipher kek h p1 p2 body
+
+-- where a card takes no commands inside a channel, no byte names one, and the one that stands for them is unknown
+abbrev pub no_rule : Rule NoCommand
+no_rule cipher kek h i p1 p2 body = (h, only sw.InstructionUnknown)
 
 abbrev pub is_success : StatusWord → Bool
 is_success sw.Success = true

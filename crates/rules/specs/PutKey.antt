@@ -34,7 +34,7 @@ abbrev pub key_set_from : Direction → (List ℕ → List ℕ) → NewKeys → 
 key_set_from enc dec n =
     and_then (key_in enc dec n.enc)
     (λ e. and_then (key_in enc dec n.mac)
-    (λ m. option_map (λ k. record { version = n.version; enc = e; mac = m; kek = k }) (key_in enc dec n.kek)))
+    (λ m. option_map (λ k. record { version = n.version; keys = record { enc = e; mac = m; kek = k } }) (key_in enc dec n.kek)))
 
 abbrev pub own_algorithm : ℕ → NewKeys → Bool
 own_algorithm own n =
@@ -54,7 +54,7 @@ deciphered_keys dec body = map (unwrapped dec) (keys_in body)
 
 -- the key set of a version and three keys
 abbrev pub key_set_of : ℕ → List (List ℕ) → KeySet
-key_set_of version keys = record { version = version; enc = slice_index_or keys 0 []; mac = slice_index_or keys 1 []; kek = slice_index_or keys 2 [] }
+key_set_of version keys = record { version = version; keys = record { enc = slice_index_or keys 0 []; mac = slice_index_or keys 1 []; kek = slice_index_or keys 2 [] } }
 
 -- the set comes last where P1 is 00, and otherwise in the place of the one of version P1
 abbrev pub with_set_put : ℕ → KeySet → Held → Held

@@ -36,6 +36,10 @@ is_locked Secured = false
 is_locked CmLocked = true
 is_locked Terminated = false
 
+-- whether a card in this state takes changes of its registry and keys
+abbrev pub unlocked : CardState → Result (Unit {0}) StatusWord
+unlocked state = cond (is_locked state) (Err ConditionsNotSatisfied) (Ok tt)
+
 -- a card in CM_LOCKED answers 6985
 abbrev pub unless_locked : Held → Held × Reply → Held × Reply
 unless_locked h out = cond (is_locked h.state) (refused h ConditionsNotSatisfied) out

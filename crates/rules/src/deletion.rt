@@ -5,7 +5,8 @@ ghost use Rattle.contents.specs.Contents.{held};
 ghost use Rattle.rules.specs.Rules.{replied, itself};
 ghost use Rattle.rules.specs.Delete.{deleted_name, deleted};
 
-use crate::locking::is_locked;
+use crate::Request;
+use crate::locking::check_unlocked;
 use crate::names::name_ahead;
 use answers::StatusWord;
 use contents::Contents;
@@ -14,29 +15,25 @@ use contents::Contents;
 fn deleted_name(body: &[u8]) -> Option<&[u8]>
     ensures { option_map (λ x. x.now) result ≡ deleted_name body.now }
 {
-    if body.is_empty() || body[0] != 0x4F {
+    let [0x4F, field @ ..] = body else {
         return None;
+    };
+    match name_ahead(field)? {
+        (name, []) => Some(name),
+        (_, _) => None,
     }
-    let (name, rest) = name_ahead(&body[1..])?;
-    if !rest.is_empty() {
-        return None;
-    }
-    Some(name)
 }
 
 // Takes out the load file or the application of the name in the body.
-pub fn delete(contents: &mut Contents, p1: u8, p2: u8, body: &[u8]) -> Result<[u8; 1], StatusWord>
-    ensures { (held contents.new, replied itself result) ≡ deleted (held contents.old) p1 p2 body.now }
+#[tactic(auto, unfolding(crate::specs::Delete::deleted))]
+pub fn delete(contents: &mut Contents, request: Request) -> Result<[u8; 1], StatusWord>
+    ensures { (held contents.new, replied itself result) ≡ deleted (held contents.old) request.entry.p1 request.entry.p2 request.entry.body.now }
 {
-    if p1 != 0x00 || p2 != 0x00 {
+    if request.p1 != 0x00 || request.p2 != 0x00 {
         return Err(StatusWord::WrongParameters);
     }
-    if is_locked(contents.state()) {
-        return Err(StatusWord::ConditionsNotSatisfied);
-    }
-    let Some(name) = deleted_name(body) else {
-        return Err(StatusWord::WrongData);
-    };
+    check_unlocked(contents.state())?;
+    let name = deleted_name(request.body).ok_or(StatusWord::WrongData)?;
     if !contents.remove_entry(name) {
         return Err(StatusWord::NotFound);
     }

@@ -6,7 +6,7 @@ ghost use Rattle.rules.specs.Rules.{replied};
 ghost use Rattle.rules.specs.Listings.{listing_bytes};
 ghost use Rattle.rules.specs.GetStatus.{asked_kind, status_listed, got_status};
 
-use crate::bytes::same_bytes;
+use crate::Request;
 use crate::listing::Listing;
 use answers::StatusWord;
 use contents::Contents;
@@ -20,13 +20,10 @@ const EVERY_NAME: [u8; 2] = [0x4F, 0x00];
 fn asked_kind(p1: u8, p2: u8) -> Option<EntryKind>
     ensures { result ≡ asked_kind p1 p2 }
 {
-    if p2 != 0x00 {
-        return None;
-    }
-    match p1 {
-        0x40 => Some(EntryKind::Application),
-        0x20 => Some(EntryKind::LoadFile),
-        _ => None,
+    match (p1, p2) {
+        (0x40, 0x00) => Some(EntryKind::Application),
+        (0x20, 0x00) => Some(EntryKind::LoadFile),
+        (_, _) => None,
     }
 }
 
@@ -43,13 +40,12 @@ fn list(entries: &[Entry], kind: EntryKind) -> Result<Listing, StatusWord>
 }
 
 // The records of the applications or of the load files.
-pub fn get_status(contents: &Contents, p1: u8, p2: u8, body: &[u8]) -> Result<Listing, StatusWord>
-    ensures { replied listing_bytes result ≡ got_status (held contents.now) p1 p2 body.now }
+#[tactic(auto, unfolding(crate::specs::GetStatus::got_status))]
+pub fn get_status(contents: &Contents, request: Request) -> Result<Listing, StatusWord>
+    ensures { replied listing_bytes result ≡ got_status (held contents.now) request.entry.p1 request.entry.p2 request.entry.body.now }
 {
-    let Some(kind) = asked_kind(p1, p2) else {
-        return Err(StatusWord::WrongParameters);
-    };
-    if !same_bytes(body, &EVERY_NAME) {
+    let kind = asked_kind(request.p1, request.p2).ok_or(StatusWord::WrongParameters)?;
+    if request.body != EVERY_NAME.as_slice() {
         return Err(StatusWord::WrongData);
     }
     list(contents.entries(), kind)

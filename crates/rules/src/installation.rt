@@ -1,15 +1,16 @@
 // INSTALL: an application joins the registry.
-ghost use Rattle.std.specs.Prelude.{◌≡◌, true, IfSome};
+ghost use Rattle.std.specs.Prelude.{◌≡◌, true, Some, IfSome};
 ghost use Rattle.std.specs.Option.{option_map};
 ghost use Rattle.contents.specs.Contents.{held};
 ghost use Rattle.contents.specs.Changes.{is_name};
 ghost use Rattle.contents.specs.Held.{state_fits};
 ghost use Rattle.contents.specs.declared.life.EntryKind.TheVariants.{Application};
 ghost use Rattle.rules.specs.Rules.{replied, itself};
-ghost use Rattle.rules.specs.Install.{state_asked, privileges_in, installation_in, is_load_file, installed_as, installed};
+ghost use Rattle.rules.specs.Install.{state_asked, privileges_in, installation_in, is_load_file, installed_by, installed};
 ghost use Rattle.rules.specs.Installations.{asked};
 
-use crate::locking::is_locked;
+use crate::Request;
+use crate::locking::check_unlocked;
 use crate::names::name_ahead;
 use answers::StatusWord;
 use contents::Contents;
@@ -29,13 +30,10 @@ fn state_asked(p1: u8, p2: u8) -> Option<EntryState>
     ensures state { result ≡ state_asked p1 p2 }
     ensures fits { IfSome result (λ s. state_fits Application s ≡ true) }
 {
-    if p2 != 0x00 {
-        return None;
-    }
-    match p1 {
-        0x04 => Some(EntryState::Installed),
-        0x0C => Some(EntryState::Selectable),
-        _ => None,
+    match (p1, p2) {
+        (0x04, 0x00) => Some(EntryState::Installed),
+        (0x0C, 0x00) => Some(EntryState::Selectable),
+        (_, _) => None,
     }
 }
 
@@ -43,14 +41,13 @@ fn state_asked(p1: u8, p2: u8) -> Option<EntryState>
 fn privileges_in(rest: &[u8]) -> Option<u8>
     ensures { result ≡ privileges_in rest.now }
 {
-    if rest.len() < 4 || rest[0] != 0x01 {
+    let [0x01, privileges, len, parameters @ .., 0x00] = rest else {
+        return None;
+    };
+    if parameters.len() != *len as usize {
         return None;
     }
-    let last = rest[2] as usize + 3;
-    if rest.len() != last + 1 || rest[last] != 0x00 {
-        return None;
-    }
-    Some(rest[1])
+    Some(*privileges)
 }
 
 // The names of load file, module and application, then the privileges. The module's name is only read.
@@ -72,49 +69,36 @@ fn installation_in(body: &[u8]) -> Option<Installation<'_>>
 fn is_load_file(entry: Option<Entry>) -> bool
     ensures { result ≡ is_load_file entry }
 {
-    match entry {
-        Some(entry) => match entry.kind {
-            EntryKind::LoadFile => true,
-            EntryKind::Application => false,
-        },
-        None => false,
-    }
+    entry.is_some_and(|entry| entry.kind == EntryKind::LoadFile)
 }
 
 fn install_as(
     contents: &mut Contents,
     state: EntryState,
-    file: &[u8],
-    name: &[u8],
-    privileges: u8,
+    installation: Installation,
 ) -> Result<[u8; 1], StatusWord>
-    requires { (state_fits Application state ≡ true) × (is_name name.now ≡ true) }
-    ensures { (held contents.new, replied itself result) ≡ installed_as (held contents.old) state file.now name.now privileges }
+    requires { (state_fits Application state ≡ true) × (is_name installation.name.now ≡ true) }
+    ensures { (held contents.new, replied itself result) ≡ installed_by (held contents.old) state (Some (asked installation.entry)) }
 {
-    if !is_load_file(contents.entry(file)) {
+    if !is_load_file(contents.entry(installation.file)) {
         return Err(StatusWord::NotFound);
     }
-    if is_card_manager(name) || contents.has_name(name) {
+    if is_card_manager(installation.name) || contents.has_name(installation.name) {
         return Err(StatusWord::WrongData);
     }
-    if !contents.add_application(name, state, privileges) {
+    if !contents.add_application(installation.name, state, installation.privileges) {
         return Err(StatusWord::NotEnoughSpace);
     }
     Ok([0x00])
 }
 
 // Registers an application of a load file.
-pub fn install(contents: &mut Contents, p1: u8, p2: u8, body: &[u8]) -> Result<[u8; 1], StatusWord>
-    ensures { (held contents.new, replied itself result) ≡ installed (held contents.old) p1 p2 body.now }
+#[tactic(auto, unfolding(crate::specs::Install::installed))]
+pub fn install(contents: &mut Contents, request: Request) -> Result<[u8; 1], StatusWord>
+    ensures { (held contents.new, replied itself result) ≡ installed (held contents.old) request.entry.p1 request.entry.p2 request.entry.body.now }
 {
-    let Some(state) = state_asked(p1, p2) else {
-        return Err(StatusWord::WrongParameters);
-    };
-    if is_locked(contents.state()) {
-        return Err(StatusWord::ConditionsNotSatisfied);
-    }
-    let Some(asked) = installation_in(body) else {
-        return Err(StatusWord::WrongData);
-    };
-    install_as(contents, state, asked.file, asked.name, asked.privileges)
+    let state = state_asked(request.p1, request.p2).ok_or(StatusWord::WrongParameters)?;
+    check_unlocked(contents.state())?;
+    let installation = installation_in(request.body).ok_or(StatusWord::WrongData)?;
+    install_as(contents, state, installation)
 }

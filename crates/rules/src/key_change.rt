@@ -1,55 +1,35 @@
 // PUT KEY: a key set is added or replaced.
-ghost use Rattle.std.specs.Prelude.{◌≡◌, ◌+◌, ◌≤◌, true, ◌++◌, take, drop, IfSome, Result};
-ghost use Rattle.cipher.specs.Blocks.{algorithm};
+ghost use Rattle.std.specs.Prelude.{◌≡◌, ◌+◌, ◌≤◌, true, IfSome, Result};
 ghost use Rattle.contents.specs.Contents.{held};
 ghost use Rattle.contents.specs.Changes.{is_version};
 ghost use Rattle.rules.specs.Rules.{replied};
 ghost use Rattle.rules.specs.NewKeys.{key_receipt_bytes};
 ghost use Rattle.rules.specs.PutKey.{unwrapped, key_in, key_set_from, own_algorithm, place_for, with_set_put, keys_put, key_put};
 
-use crate::bytes::same_bytes;
-use crate::locking::is_locked;
+use crate::Request;
+use crate::locking::check_unlocked;
 use crate::new_keys::{KeyField, KeyReceipt, NewKeys};
 use answers::StatusWord;
-use cipher::{Cipher, encipher_block};
+use cipher::{Cipher, Keys, encipher_block, halves};
 use contents::Contents;
 use contents::records::KeySet;
-
-// The eight bytes of a key from a place on.
-fn half(key: &[u8; 16], at: usize) -> [u8; 8]
-    requires { at + 8 ≤ 16 }
-    ensures { result ≡ take 8 (drop at key.now) }
-{
-    let mut half = [0; 8];
-    half.copy_from_slice(&key[at..at + 8]);
-    half
-}
-
-fn joined_halves(first: &[u8; 8], second: &[u8; 8]) -> [u8; 16]
-    ensures { result ≡ first.now ++ second.now }
-{
-    let mut key = [0; 16];
-    key[0..8].copy_from_slice(first);
-    key[8..16].copy_from_slice(second);
-    key
-}
 
 // A key whose halves are each deciphered.
 fn unwrapped_key<C: Cipher>(keys: &C::RoundKeys, key: &[u8; 16]) -> [u8; 16]
     ensures { result ≡ unwrapped (C.Cipher.deciphering keys.now) key.now }
 {
-    let first = C::decipher(keys, &half(key, 0));
-    let second = C::decipher(keys, &half(key, 8));
-    joined_halves(&first, &second)
+    let [first, second] = halves(key);
+    let plain = [C::decipher(keys, &first), C::decipher(keys, &second)];
+    <[u8; 16]>::try_from(plain.as_flattened()).unwrap()
 }
 
 // The key of a field, if its check bytes are right.
 fn key_in<C: Cipher>(keys: &C::RoundKeys, field: &KeyField) -> Option<[u8; 16]>
-    ensures { result ≡ key_in C.Cipher.enc (C.Cipher.deciphering keys.now) field.now }
+    ensures { result ≡ key_in C.algorithm.enc (C.Cipher.deciphering keys.now) field.now }
 {
     let key = unwrapped_key::<C>(keys, &field.key);
     let block = encipher_block::<C>(&key, &[0; 8]);
-    if !same_bytes(&block[0..3], &field.check) {
+    if &block[..3] != field.check.as_slice() {
         return None;
     }
     Some(key)
@@ -57,26 +37,25 @@ fn key_in<C: Cipher>(keys: &C::RoundKeys, field: &KeyField) -> Option<[u8; 16]>
 
 // The new key set, if all check bytes are right.
 fn key_set_from<C: Cipher>(kek: &[u8; 16], new: &NewKeys) -> Option<KeySet>
-    ensures set { result ≡ key_set_from C.Cipher.enc (C.Cipher.dec kek.now) new.now }
+    ensures set { result ≡ key_set_from C.algorithm.enc (C.algorithm.dec kek.now) new.now }
     ensures version { IfSome result (λ k. k.version ≡ new.now.version) }
 {
     let keys = C::expand(kek);
     let enc = key_in::<C>(&keys, &new.enc)?;
     let mac = key_in::<C>(&keys, &new.mac)?;
     let kek = key_in::<C>(&keys, &new.kek)?;
+    let keys = Keys { enc, mac, kek };
     Some(KeySet {
         version: new.version,
-        enc,
-        mac,
-        kek,
+        keys,
     })
 }
 
 // Whether all three keys are for the card's own cipher.
 fn is_own_algorithm<C: Cipher>(new: &NewKeys) -> bool
-    ensures { result ≡ own_algorithm C.Cipher.identifier new.now }
+    ensures { result ≡ own_algorithm C.algorithm.identifier new.now }
 {
-    let own = C::identify();
+    let own = C::ALGORITHM;
     new.enc.algorithm == own && new.mac.algorithm == own && new.kek.algorithm == own
 }
 
@@ -115,37 +94,30 @@ fn put_keys<C: Cipher>(
     new: &NewKeys,
 ) -> Result<KeyReceipt, StatusWord>
     requires { is_version new.now.version ≡ true }
-    ensures { (held contents.new, replied key_receipt_bytes result) ≡ keys_put (algorithm C.Cipher.enc C.Cipher.dec C.Cipher.identifier) kek.now (held contents.old) p1 new.now }
+    ensures { (held contents.new, replied key_receipt_bytes result) ≡ keys_put C.algorithm kek.now (held contents.old) p1 new.now }
 {
     if !is_own_algorithm::<C>(new) {
         return Err(StatusWord::AlgorithmUnknown);
     }
     check_place(contents, p1, new.version)?;
-    let Some(set) = key_set_from::<C>(kek, new) else {
-        return Err(StatusWord::CheckValueWrong);
-    };
+    let set = key_set_from::<C>(kek, new).ok_or(StatusWord::CheckValueWrong)?;
     put_set(contents, p1, set);
     Ok(new.receipt())
 }
 
 // Adds a key set (P1 00), or replaces the one of version P1. The keys come enciphered under the key-encrypting key.
+#[tactic(auto, unfolding(crate::specs::PutKey::key_put))]
 pub fn put_key<C: Cipher>(
     contents: &mut Contents,
     kek: &[u8; 16],
-    p1: u8,
-    p2: u8,
-    body: &[u8],
+    request: Request,
 ) -> Result<KeyReceipt, StatusWord>
-    ensures { (held contents.new, replied key_receipt_bytes result) ≡ key_put (algorithm C.Cipher.enc C.Cipher.dec C.Cipher.identifier) kek.now (held contents.old) p1 p2 body.now }
+    ensures { (held contents.new, replied key_receipt_bytes result) ≡ key_put C.algorithm kek.now (held contents.old) request.entry.p1 request.entry.p2 request.entry.body.now }
 {
-    if p1 > 0x7F || p2 != 0x81 {
+    if request.p1 > 0x7F || request.p2 != 0x81 {
         return Err(StatusWord::WrongParameters);
     }
-    if is_locked(contents.state()) {
-        return Err(StatusWord::ConditionsNotSatisfied);
-    }
-    let Some(new) = NewKeys::from_body(body) else {
-        return Err(StatusWord::WrongData);
-    };
-    put_keys::<C>(contents, kek, p1, &new)
+    check_unlocked(contents.state())?;
+    let new = NewKeys::try_from(request.body).map_err(|_| StatusWord::WrongData)?;
+    put_keys::<C>(contents, kek, request.p1, &new)
 }

@@ -1,7 +1,6 @@
 // The own rules of the channel commands: what each does to a card's contents, and what it answers.
 #![tactic(auto)]
 
-mod bytes;
 pub mod deletion;
 pub mod inquiry;
 pub mod installation;
@@ -12,3 +11,11 @@ mod locking;
 pub mod manage;
 mod names;
 pub mod new_keys;
+
+// What a command asks of its rule.
+#[derive(Clone, Copy)]
+pub struct Request<'a> {
+    pub p1: u8,
+    pub p2: u8,
+    pub body: &'a [u8],
+}

@@ -6,7 +6,8 @@ ghost use Rattle.contents.specs.declared.life.EntryKind.TheVariants.{Application
 ghost use Rattle.rules.specs.Rules.{replied, nothing};
 ghost use Rattle.rules.specs.SetStatus.{card_step, application_step, card_set, application_set, set_status};
 
-use crate::locking::is_locked;
+use crate::Request;
+use crate::locking::check_unlocked;
 use answers::StatusWord;
 use contents::Contents;
 use contents::life::{CardState, EntryKind, EntryState};
@@ -50,9 +51,7 @@ fn set_card_state(contents: &mut Contents, p2: u8, name: &[u8]) -> Result<(), St
     if !is_card_manager(name) {
         return Err(StatusWord::NotFound);
     }
-    let Some(state) = card_step(contents.state(), p2) else {
-        return Err(StatusWord::WrongData);
-    };
+    let state = card_step(contents.state(), p2).ok_or(StatusWord::WrongData)?;
     contents.set_state(state);
     Ok(())
 }
@@ -61,30 +60,25 @@ fn set_card_state(contents: &mut Contents, p2: u8, name: &[u8]) -> Result<(), St
 fn set_application_state(contents: &mut Contents, p2: u8, name: &[u8]) -> Result<(), StatusWord>
     ensures { (held contents.new, replied nothing result) ≡ application_set (held contents.old) p2 name.now }
 {
-    let Some(entry) = contents.entry(name) else {
-        return Err(StatusWord::NotFound);
-    };
-    if let EntryKind::LoadFile = entry.kind {
+    let entry = contents.entry(name).ok_or(StatusWord::NotFound)?;
+    if entry.kind == EntryKind::LoadFile {
         return Err(StatusWord::NotFound);
     }
-    let Some(state) = application_step(entry.state, p2) else {
-        return Err(StatusWord::WrongData);
-    };
+    let state = application_step(entry.state, p2).ok_or(StatusWord::WrongData)?;
     contents.set_application_state(name, state);
     Ok(())
 }
 
 // A step of the card, or of one application.
-pub fn set_status(contents: &mut Contents, p1: u8, p2: u8, body: &[u8]) -> Result<(), StatusWord>
-    ensures { (held contents.new, replied nothing result) ≡ set_status (held contents.old) p1 p2 body.now }
+#[tactic(auto, unfolding(crate::specs::SetStatus::set_status))]
+pub fn set_status(contents: &mut Contents, request: Request) -> Result<(), StatusWord>
+    ensures { (held contents.new, replied nothing result) ≡ set_status (held contents.old) request.entry.p1 request.entry.p2 request.entry.body.now }
 {
-    match p1 {
-        0x80 => set_card_state(contents, p2, body),
+    match request.p1 {
+        0x80 => set_card_state(contents, request.p2, request.body),
         0x40 => {
-            if is_locked(contents.state()) {
-                return Err(StatusWord::ConditionsNotSatisfied);
-            }
-            set_application_state(contents, p2, body)
+            check_unlocked(contents.state())?;
+            set_application_state(contents, request.p2, request.body)
         }
         _ => Err(StatusWord::WrongParameters),
     }

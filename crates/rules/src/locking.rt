@@ -1,15 +1,16 @@
 // A card that is locked.
 ghost use Rattle.std.specs.Prelude.{◌≡◌};
-ghost use Rattle.rules.specs.Rules.{is_locked};
+ghost use Rattle.rules.specs.Rules.{unlocked};
 
+use answers::StatusWord;
 use contents::life::CardState;
 
-// Whether a card in this state takes no changes of its registry and keys.
-pub(crate) fn is_locked(state: CardState) -> bool
-    ensures { result ≡ is_locked state }
+// Whether a card in this state takes changes of its registry and keys.
+pub(crate) fn check_unlocked(state: CardState) -> Result<(), StatusWord>
+    ensures { result ≡ unlocked state }
 {
-    match state {
-        CardState::CmLocked => true,
-        _ => false,
+    if state == CardState::CmLocked {
+        return Err(StatusWord::ConditionsNotSatisfied);
     }
+    Ok(())
 }

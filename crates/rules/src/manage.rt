@@ -1,15 +1,13 @@
 // The channel commands, each by its own rule.
-ghost use Rattle.std.specs.Prelude.{◌≡◌, ℕ, ◌≤◌, length};
-ghost use Rattle.cipher.specs.Blocks.{algorithm};
+ghost use Rattle.std.specs.Prelude.{◌≡◌, ℕ, ◌≤◌, List, length};
+ghost use Rattle.answers.specs.Replies.{Reply};
+ghost use Rattle.cipher.specs.Blocks.{Algorithm};
 ghost use Rattle.contents.specs.Contents.{held};
-ghost use Rattle.rules.specs.GetStatus.{got_status};
-ghost use Rattle.rules.specs.SetStatus.{set_status};
-ghost use Rattle.rules.specs.Install.{installed};
-ghost use Rattle.rules.specs.Delete.{deleted};
-ghost use Rattle.rules.specs.PutKey.{key_put};
-ghost use Rattle.rules.specs.Own.{own_rule, receipt_bytes};
+ghost use Rattle.contents.specs.Held.{Held};
+ghost use Rattle.rules.specs.Own.{Rule, own_rule, no_rule, receipt_bytes};
 ghost use Rattle.rules.specs.Rules.{replied};
 
+use crate::Request;
 use crate::deletion::delete;
 use crate::inquiry::get_status;
 use crate::installation::install;
@@ -18,12 +16,12 @@ use crate::life_cycle::set_status;
 use crate::listing::Listing;
 use crate::new_keys::KeyReceipt;
 use answers::StatusWord;
-use apdu::Management;
+use apdu::{ChannelCommand, Management, NoCommand};
 use cipher::Cipher;
 use contents::Contents;
 
 // The data of an answer with 9000.
-#[derive(Clone, Copy)]
+#[derive(Drop)]
 pub enum Receipt {
     Nothing,
     Listed(Listing),
@@ -47,73 +45,50 @@ impl Receipt {
     }
 }
 
-fn list(contents: &Contents, p1: u8, p2: u8, body: &[u8]) -> Result<Receipt, StatusWord>
-    ensures { replied receipt_bytes result ≡ got_status (held contents.now) p1 p2 body.now }
-{
-    match get_status(contents, p1, p2, body) {
-        Ok(listing) => Ok(Receipt::Listed(listing)),
-        Err(status) => Err(status),
+// What each command inside a channel does to the contents, and what it answers.
+pub trait OwnRule: ChannelCommand {
+    // from what the card holds, the channel's key-encrypting key and the command to what the card holds then, and the reply
+    ghost own_rule: { Rule Self };
+
+    // `kek` is the channel's key-encrypting key.
+    fn obey<C: Cipher>(
+        self,
+        contents: &mut Contents,
+        kek: &[u8; 16],
+        request: Request,
+    ) -> Result<Receipt, StatusWord>
+        ensures { (held contents.new, replied receipt_bytes result) ≡ own_rule C.algorithm kek.now (held contents.old) self request.entry.p1 request.entry.p2 request.entry.body.now };
+}
+
+impl OwnRule for Management {
+    ghost own_rule = { own_rule };
+
+    #[tactic(auto, unfolding(crate::specs::Own::own_rule))]
+    fn obey<C: Cipher>(
+        self,
+        contents: &mut Contents,
+        kek: &[u8; 16],
+        request: Request,
+    ) -> Result<Receipt, StatusWord> {
+        match self {
+            Management::GetStatus => get_status(contents, request).map(Receipt::Listed),
+            Management::SetStatus => set_status(contents, request).map(|()| Receipt::Nothing),
+            Management::Install => install(contents, request).map(Receipt::Confirmed),
+            Management::Delete => delete(contents, request).map(Receipt::Confirmed),
+            Management::PutKey => put_key::<C>(contents, kek, request).map(Receipt::Keyed),
+        }
     }
 }
 
-fn step(contents: &mut Contents, p1: u8, p2: u8, body: &[u8]) -> Result<Receipt, StatusWord>
-    ensures { (held contents.new, replied receipt_bytes result) ≡ set_status (held contents.old) p1 p2 body.now }
-{
-    match set_status(contents, p1, p2, body) {
-        Ok(()) => Ok(Receipt::Nothing),
-        Err(status) => Err(status),
-    }
-}
+impl OwnRule for NoCommand {
+    ghost own_rule = { no_rule };
 
-fn add(contents: &mut Contents, p1: u8, p2: u8, body: &[u8]) -> Result<Receipt, StatusWord>
-    ensures { (held contents.new, replied receipt_bytes result) ≡ installed (held contents.old) p1 p2 body.now }
-{
-    match install(contents, p1, p2, body) {
-        Ok(bytes) => Ok(Receipt::Confirmed(bytes)),
-        Err(status) => Err(status),
-    }
-}
-
-fn take_out(contents: &mut Contents, p1: u8, p2: u8, body: &[u8]) -> Result<Receipt, StatusWord>
-    ensures { (held contents.new, replied receipt_bytes result) ≡ deleted (held contents.old) p1 p2 body.now }
-{
-    match delete(contents, p1, p2, body) {
-        Ok(bytes) => Ok(Receipt::Confirmed(bytes)),
-        Err(status) => Err(status),
-    }
-}
-
-fn put<C: Cipher>(
-    contents: &mut Contents,
-    kek: &[u8; 16],
-    p1: u8,
-    p2: u8,
-    body: &[u8],
-) -> Result<Receipt, StatusWord>
-    ensures { (held contents.new, replied receipt_bytes result) ≡ key_put (algorithm C.Cipher.enc C.Cipher.dec C.Cipher.identifier) kek.now (held contents.old) p1 p2 body.now }
-{
-    match put_key::<C>(contents, kek, p1, p2, body) {
-        Ok(keys) => Ok(Receipt::Keyed(keys)),
-        Err(status) => Err(status),
-    }
-}
-
-// What a channel command does to the contents, and what it answers; `kek` is the channel's key-encrypting key.
-pub fn manage<C: Cipher>(
-    contents: &mut Contents,
-    kek: &[u8; 16],
-    management: Management,
-    p1: u8,
-    p2: u8,
-    body: &[u8],
-) -> Result<Receipt, StatusWord>
-    ensures { (held contents.new, replied receipt_bytes result) ≡ own_rule (algorithm C.Cipher.enc C.Cipher.dec C.Cipher.identifier) kek.now (held contents.old) management p1 p2 body.now }
-{
-    match management {
-        Management::GetStatus => list(contents, p1, p2, body),
-        Management::SetStatus => step(contents, p1, p2, body),
-        Management::Install => add(contents, p1, p2, body),
-        Management::Delete => take_out(contents, p1, p2, body),
-        Management::PutKey => put::<C>(contents, kek, p1, p2, body),
+    fn obey<C: Cipher>(
+        self,
+        _contents: &mut Contents,
+        _kek: &[u8; 16],
+        _request: Request,
+    ) -> Result<Receipt, StatusWord> {
+        Err(StatusWord::InstructionUnknown)
     }
 }

@@ -9,12 +9,11 @@ pub(crate) fn name_ahead(bytes: &[u8]) -> Option<(&[u8], &[u8])>
     ensures ahead { option_map (λ p. (p.0.now, p.1.now)) result ≡ name_ahead bytes.now }
     ensures named { IfSome result (λ p. is_name p.0.now ≡ true) }
 {
-    if bytes.is_empty() {
+    let [len, rest @ ..] = bytes else {
+        return None;
+    };
+    if *len < 5 || *len > 16 {
         return None;
     }
-    let len = bytes[0] as usize;
-    if len < 5 || len > 16 || bytes.len() <= len {
-        return None;
-    }
-    Some((&bytes[1..len + 1], &bytes[len + 1..]))
+    rest.split_at_checked(*len as usize)
 }

@@ -1,7 +1,8 @@
 // The body of PUT KEY.
-ghost use Rattle.std.specs.Prelude.{◌≡◌, true, length, IfSome};
+ghost use Rattle.std.specs.Prelude.{◌≡◌, true, IfOk};
+ghost use Rattle.std.specs.Result.{result_ok};
 ghost use Rattle.contents.specs.Changes.{is_version};
-ghost use Rattle.rules.specs.NewKeys.{field_in, new_keys_in, receipt_of};
+ghost use Rattle.rules.specs.NewKeys.{whole_field, new_keys_in, receipt_of};
 
 use contents::records::is_version;
 
@@ -28,47 +29,51 @@ pub struct KeyReceipt {
     pub bytes: [u8; 10],
 }
 
-impl KeyField {
-    // Algorithm, 10, the sixteen bytes of the key, 03, three check bytes.
-    fn from_bytes(bytes: &[u8]) -> Option<KeyField>
-        requires { length bytes.now ≡ 22 }
-        ensures { result ≡ field_in bytes.now }
-    {
-        if bytes[1] != 0x10 || bytes[18] != 0x03 {
-            return None;
-        }
-        let mut key = [0; 16];
-        key.copy_from_slice(&bytes[2..18]);
-        let mut check = [0; 3];
-        check.copy_from_slice(&bytes[19..22]);
-        Some(KeyField {
-            algorithm: bytes[0],
-            key,
-            check,
+// A body that is not one of PUT KEY.
+#[derive(Clone, Copy, PartialEq, Eq, Debug)]
+pub struct IllFormed;
+
+// Algorithm, 10, the sixteen bytes of the key, 03, three check bytes.
+impl TryFrom<&[u8]> for KeyField {
+    type Error = IllFormed;
+
+    ghost try_from_gives = { λ bytes r. result_ok r ≡ whole_field bytes.now };
+
+    fn try_from(bytes: &[u8]) -> Result<KeyField, IllFormed> {
+        let [algorithm, 0x10, key @ .., 0x03, c0, c1, c2] = bytes else {
+            return Err(IllFormed);
+        };
+        Ok(KeyField {
+            algorithm: *algorithm,
+            key: <[u8; 16]>::try_from(key).map_err(|_| IllFormed)?,
+            check: [*c0, *c1, *c2],
         })
     }
 }
 
-impl NewKeys {
-    // The new version, and the fields of three keys.
-    pub(crate) fn from_body(body: &[u8]) -> Option<NewKeys>
-        ensures keys { result ≡ new_keys_in body.now }
-        ensures version { IfSome result (λ n. is_version n.version ≡ true) }
-    {
+// The new version, and the fields of three keys.
+impl TryFrom<&[u8]> for NewKeys {
+    type Error = IllFormed;
+
+    ghost try_from_gives = { λ body r. (result_ok r ≡ new_keys_in body.now) × IfOk r (λ n. is_version n.version ≡ true) };
+
+    fn try_from(body: &[u8]) -> Result<NewKeys, IllFormed> {
         if body.len() != 67 || !is_version(body[0]) {
-            return None;
+            return Err(IllFormed);
         }
-        let enc = KeyField::from_bytes(&body[1..23])?;
-        let mac = KeyField::from_bytes(&body[23..45])?;
-        let kek = KeyField::from_bytes(&body[45..67])?;
-        Some(NewKeys {
+        let enc = KeyField::try_from(&body[1..23])?;
+        let mac = KeyField::try_from(&body[23..45])?;
+        let kek = KeyField::try_from(&body[45..67])?;
+        Ok(NewKeys {
             version: body[0],
             enc,
             mac,
             kek,
         })
     }
+}
 
+impl NewKeys {
     pub(crate) fn receipt(&self) -> KeyReceipt
         ensures { result.bytes ≡ receipt_of self.now }
     {

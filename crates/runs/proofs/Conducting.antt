@@ -6,9 +6,9 @@ use Rattle.answers.specs.declared.Refusal.TheVariants.{IllArgument}
 use Rattle.answers.specs.declared.StatusWord.TheVariants.{Success}
 use Rattle.answers.specs.Numbers.{status_bytes}
 use Rattle.answers.specs.Replies.{reply_bytes}
-use Rattle.manager.specs.declared.channel.Channel.TheVariants.{Closed}
-use Rattle.manager.specs.Models.{Model, model}
-use Rattle.manager.specs.Opening.{keys_of}
+use Rattle.card.specs.declared.channel.Channel.TheVariants.{Closed}
+use Rattle.card.specs.Models.{Model, model}
+use Rattle.card.specs.Opening.{keys_of}
 use Rattle.challenge.specs.Draws.{Challenges}
 use Rattle.cipher.specs.Blocks.{Algorithm}
 use Rattle.contents.specs.declared.records.KeySet.{KeySet}
@@ -47,7 +47,7 @@ conversed cipher m mid n t over u talk o sendings opens answers =
     let host = talk.host in
     let reply = (challenged cipher m.contents set host drawn rest).1 in
     let a = answers talk.level (keys_of cipher set host drawn) w.coded (shares_opened cipher m mid t over set host drawn rest talk.level o op) in
-    let P : Held → Type 0 = λ h. Serves cipher set.kek h sendings n.contents in
+    let P : Held → Type 0 = λ h. Serves cipher set.keys.kek h sendings n.contents in
     record {
       answer = reply_bytes reply;
       update = op.update;
@@ -73,16 +73,16 @@ abbrev MadeSo : KeySet → Result Side Refusal → Type 0
 MadeSo k (Ok t) = Fresh t k
 MadeSo k (Err e) = Unit {0}
 
-made_so : (k : KeySet) → MadeSo k (made_of k.version k.enc k.mac k.kek)
+made_so : (k : KeySet) → MadeSo k (made_of k.version k.keys.enc k.keys.mac k.keys.kek)
 made_so k =
-    let t = fresh k.version k.enc k.mac k.kek in
-    let others = leb k.version 0x7F && (eqb (length k.enc) 16 && (eqb (length k.mac) 16 && eqb (length k.kek) 16)) in
-    elim (fit_for k.version k.enc k.mac k.kek) as (λ b. fit_for k.version k.enc k.mac k.kek ≡ b → MadeSo k (cond b (Ok t) (Err IllArgument))) [
+    let t = fresh k.version k.keys.enc k.keys.mac k.keys.kek in
+    let others = leb k.version 0x7F && (eqb (length k.keys.enc) 16 && (eqb (length k.keys.mac) 16 && eqb (length k.keys.kek) 16)) in
+    elim (fit_for k.version k.keys.enc k.keys.mac k.keys.kek) as (λ b. fit_for k.version k.keys.enc k.keys.mac k.keys.kek ≡ b → MadeSo k (cond b (Ok t) (Err IllArgument))) [
       | true ↦ λ fit. record { has = record { version = refl; enc = refl; mac = refl; kek = refl }; version = leb-true 1 k.version (and_parts (leb 1 k.version) others fit).0 }
       | false ↦ λ no'. tt
     ] refl
 
-pub fresh_set : (t : Side) (k : KeySet) → Ok t ≡ made_of k.version k.enc k.mac k.kek → Fresh t k
+pub fresh_set : (t : Side) (k : KeySet) → Ok t ≡ made_of k.version k.keys.enc k.keys.mac k.keys.kek → Fresh t k
 fresh_set t k is = let P : Result Side Refusal → Type 0 = λ r. MadeSo k r in subst P (sym is) (made_so k)
 
 -- A source that is not spent has a challenge to come.
@@ -97,7 +97,7 @@ coming_some [] some = absurd (omega arith)
 coming_some (c ∷ rest) some = record { first = c; rest = rest; is = refl }
 
 -- the turns, and then the conversation
-ran_all : (cipher : Algorithm) (h : Held) (coming : Challenges) (mid n : Model) (t : Side) (handed : List Input) (talk : Talk) (events : List Event) (said : Said) → Ok t ≡ made_of talk.set.version talk.set.enc talk.set.mac talk.set.kek → Played cipher (model h Closed coming) mid handed events → Conversed cipher mid n t talk said → Onward cipher mid (said_events said) n → is_some said.served ≡ is_answered said.opening.1 → Run cipher h coming n handed talk events said
+ran_all : (cipher : Algorithm) (h : Held) (coming : Challenges) (mid n : Model) (t : Side) (handed : List Input) (talk : Talk) (events : List Event) (said : Said) → Ok t ≡ made_of talk.set.version talk.set.keys.enc talk.set.keys.mac talk.set.keys.kek → Played cipher (model h Closed coming) mid handed events → Conversed cipher mid n t talk said → Onward cipher mid (said_events said) n → is_some said.served ≡ is_answered said.opening.1 → Run cipher h coming n handed talk events said
 ran_all cipher h coming mid n t handed talk events said is p c on told-open =
     let m = model h Closed coming in
     let count = drawn_count p.ran in
@@ -113,10 +113,10 @@ ran_all cipher h coming mid n t handed talk events said is p c on told-open =
     }
 
 -- the image and the key set were accepted
-accepted : (image : List ℕ) (h : Held) (t : Side) (k : KeySet) → read_image image ≡ Ok h → Ok t ≡ made_of k.version k.enc k.mac k.kek → refusal image k ≡ None
+accepted : (image : List ℕ) (h : Held) (t : Side) (k : KeySet) → read_image image ≡ Ok h → Ok t ≡ made_of k.version k.keys.enc k.keys.mac k.keys.kek → refusal image k ≡ None
 accepted image h t k read made = ap (λ (r : Result Held Refusal). refused_for r k) read ∙ ap unmade_of (sym made)
 
-pub conducted : (cipher : Algorithm) (image : List ℕ) (coming : Challenges) (h : Held) (m mid n : Model) (t : Side) (handed : List Input) (talk : Talk) (events : List Event) (said : Said) → read_image image ≡ Ok h → m ≡ model h Closed coming → Ok t ≡ made_of talk.set.version talk.set.enc talk.set.mac talk.set.kek → Played cipher m mid handed events → Conversed cipher mid n t talk said → Onward cipher mid (said_events said) n → is_some said.served ≡ is_answered said.opening.1 → Conducted cipher image coming n handed talk events said
+pub conducted : (cipher : Algorithm) (image : List ℕ) (coming : Challenges) (h : Held) (m mid n : Model) (t : Side) (handed : List Input) (talk : Talk) (events : List Event) (said : Said) → read_image image ≡ Ok h → m ≡ model h Closed coming → Ok t ≡ made_of talk.set.version talk.set.keys.enc talk.set.keys.mac talk.set.keys.kek → Played cipher m mid handed events → Conversed cipher mid n t talk said → Onward cipher mid (said_events said) n → is_some said.served ≡ is_answered said.opening.1 → Conducted cipher image coming n handed talk events said
 conducted cipher image coming h m mid n t handed talk events said read is made p c on told-open =
     let P : Model → Type 0 = λ x. Played cipher x mid handed events in
     record { start = h; read = read; accepted = accepted image h t talk.set read made; run = ran_all cipher h coming mid n t handed talk events said made (subst P is p) c on told-open }

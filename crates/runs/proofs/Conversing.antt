@@ -12,12 +12,12 @@ use Rattle.answers.specs.Numbers.{status_bytes}
 use Rattle.answers.specs.Replies.{Reply, only, reply_bytes}
 use Rattle.apdu.specs.declared.Management.{Management}
 use Rattle.apdu.specs.Apdu.{Apdu, apdu, management_of}
-use Rattle.manager.specs.declared.channel.Channel.TheVariants.{Waiting, Open}
-use Rattle.manager.specs.Channels.{handshake, sized_channel}
-use Rattle.manager.specs.Models.{Model, model, Fit}
-use Rattle.manager.specs.Opening.{keys_of}
-use Rattle.manager.specs.Replies.{update_data}
-use Rattle.manager.specs.Taking.{responded}
+use Rattle.card.specs.declared.channel.Channel.TheVariants.{Waiting, Open}
+use Rattle.card.specs.Channels.{handshake, sized_channel}
+use Rattle.card.specs.Models.{Model, model, Fit}
+use Rattle.card.specs.Opening.{keys_of}
+use Rattle.card.specs.Replies.{update_data}
+use Rattle.card.specs.Taking.{responded}
 use Rattle.challenge.specs.Draws.{Challenges}
 use Rattle.cipher.specs.Blocks.{Algorithm, Bytes, Undoes, zeros}
 use Rattle.cipher.proofs.Xors.{small_take}
@@ -39,6 +39,7 @@ use Rattle.runs.specs.Turns.{Pair, HandedIn}
 use Rattle.runs.proofs.Following.{ten_bytes}
 use Rattle.runs.proofs.Serving.{begin_sent, update_answered_is, update_trusted, authenticate_answered, opened_keyed, card_shown, answer_parts}
 use Rattle.runs.proofs.Turning.{front_within}
+use Rattle.rules.specs.Own.{own_rule}
 
 -- What a terminal wrote ends within its area.
 
@@ -54,13 +55,13 @@ sends_fits t area bytes = front_within area bytes (fronted area bytes) (length b
 
 abbrev opened_with : Algorithm → Side → List ℕ → List ℕ → Level → List ℕ
 opened_with cipher t host card level =
-    let keys = session_keys cipher.enc t.enc t.mac t.kek host card in
+    let keys = session_keys cipher.enc t.keys.enc t.keys.mac t.keys.kek host card in
     let crypt = host_cryptogram cipher.enc keys.enc host card in
     authenticate_command (level_value level) crypt (command_code cipher.enc keys.mac zeros 0x82 (level_value level) 0x00 crypt)
 
 opens_fits : (cipher : Algorithm) (t : Side) (host card cryptogram : List ℕ) (level : Level) (area : List ℕ) → Fits (terminal.checks cipher t host (Some (record { challenge = card; cryptogram = cryptogram })) level area)
 opens_fits cipher t host card cryptogram level area =
-    let keys = session_keys cipher.enc t.enc t.mac t.kek host card in
+    let keys = session_keys cipher.enc t.keys.enc t.keys.mac t.keys.kek host card in
     elim (bytes_eq cryptogram (card_cryptogram cipher.enc keys.enc host card)) as (λ b. Fits (cond b (terminal.opens cipher t keys host card level area) (terminal.refused_as (in_phase t phase.Made) area WrongCryptogram))) [
       | true ↦ sends_fits (terminal.opens cipher t keys host card level area).1 area (opened_with cipher t host card level)
       | false ↦ tt
@@ -158,9 +159,9 @@ bytes_shown answer card shown eight small =
 
 -- The card draws, and answers INITIALIZE UPDATE.
 
-begun_answered : (cipher : Algorithm) (m : Model) (t : Side) (k : KeySet) (host card : List ℕ) (rest : Challenges) (level : Level) → HasSet t k → Welcome m k card rest level → length host ≡ 8 → responded cipher m (update_command t.version host) ≡ challenged cipher m.contents k host card rest
+begun_answered : (cipher : Algorithm) (m : Model) (t : Side) (k : KeySet) (host card : List ℕ) (rest : Challenges) (level : Level) → HasSet t k → Welcome m k card rest level → length host ≡ 8 → responded management_of own_rule cipher m (update_command t.version host) ≡ challenged cipher m.contents k host card rest
 begun_answered cipher m t k host card rest level has w eight =
-    ap (λ (v : ℕ). responded cipher m (update_command v host)) has.version ∙ update_answered_is cipher m k k.version host card rest w.alive w.coming w.version w.set eight
+    ap (λ (v : ℕ). responded management_of own_rule cipher m (update_command v host)) has.version ∙ update_answered_is cipher m k k.version host card rest w.alive w.coming w.version w.set eight
 
 -- both ends after INITIALIZE UPDATE
 record Challenging (cipher : Algorithm) (m n : Model) (k : KeySet) (host drawn : List ℕ) (rest : Challenges) (said : List ℕ) : Type 0 where
@@ -186,11 +187,11 @@ same_pair x a b p q = ap (λ (y : List ℕ). (y, x.1)) p ∙ ap (λ (y : List �
 same_set : (t : Side) (p : Phase) (k : KeySet) → HasSet t k → HasSet (in_phase t p) k
 same_set t p k has = record { version = has.version; enc = has.enc; mac = has.mac; kek = has.kek }
 
-shown_right : (cipher : Algorithm) → Undoes cipher.enc cipher.dec → (m : Model) (t : Side) (k : KeySet) (host card : List ℕ) (rest : Challenges) (level : Level) → Fit m → HasSet t k → Bytes 16 k.enc → Bytes 8 host → Bytes 8 card → showing cipher (in_phase t (phase.Begun host)) (reply_bytes (challenged cipher m.contents k host card rest).1) level ≡ sends (in_phase t (phase.Open (session_to cipher k host card level))) blank (authenticate_command (level_value level) (cryptogram_to cipher k host card) (code_to cipher k host card level))
+shown_right : (cipher : Algorithm) → Undoes cipher.enc cipher.dec → (m : Model) (t : Side) (k : KeySet) (host card : List ℕ) (rest : Challenges) (level : Level) → Fit m → HasSet t k → Bytes 16 k.keys.enc → Bytes 8 host → Bytes 8 card → showing cipher (in_phase t (phase.Begun host)) (reply_bytes (challenged cipher m.contents k host card rest).1) level ≡ sends (in_phase t (phase.Open (session_to cipher k host card level))) blank (authenticate_command (level_value level) (cryptogram_to cipher k host card) (code_to cipher k host card level))
 shown_right cipher laws m t k host card rest level fit has ke ph pc =
     update_trusted cipher (in_phase t (phase.Begun host)) m.contents k host card rest blank level (same_set t (phase.Begun host) k has) refl (lit≤ tt) (ten_bytes m.contents fit.contents) laws ke ph pc
 
-pub opens_channel : (cipher : Algorithm) → Undoes cipher.enc cipher.dec → (m mid n : Model) (t over u : Side) (k : KeySet) (host : List ℕ) (level : Level) (x : Pair) (noted : Option Pair) → Fit m → Fit mid → Bytes 16 k.enc → Bytes 16 k.mac → Bytes 8 host → ((i : ℕ) → get_or x.1 i 0 < 256) → Began cipher m mid t over host x → Carried cipher mid n (showing cipher over x.1 level) noted → u ≡ (showing cipher over x.1 level).1 → Opens cipher m n t u k host level (x, noted)
+pub opens_channel : (cipher : Algorithm) → Undoes cipher.enc cipher.dec → (m mid n : Model) (t over u : Side) (k : KeySet) (host : List ℕ) (level : Level) (x : Pair) (noted : Option Pair) → Fit m → Fit mid → Bytes 16 k.keys.enc → Bytes 16 k.keys.mac → Bytes 8 host → ((i : ℕ) → get_or x.1 i 0 < 256) → Began cipher m mid t over host x → Carried cipher mid n (showing cipher over x.1 level) noted → u ≡ (showing cipher over x.1 level).1 → Opens cipher m n t u k host level (x, noted)
 opens_channel cipher laws m mid n t over u k host level x noted fit next ke km ph small b told left card rest has w =
     let ws = challenging cipher m mid t over k host card rest level x fit next ph small b has w in
     let pc = ws.card in
@@ -205,8 +206,8 @@ opens_channel cipher laws m mid n t over u k host level x noted fit next ke km p
     let p = subst P out told in
     let Q : List ℕ → Type 0 = λ c. HandedIn cipher mid n c p.0 in
     let h = subst Q (take_at cmd (drop (length cmd) blank) (length cmd) refl) p.2 in
-    let answered : responded cipher mid cmd ≡ (model m.contents (Open (session_to cipher k host card level)) rest, only Success) =
-    ap (λ (y : Model). responded cipher y cmd) ws.model ∙ authenticate_answered cipher m.contents k host card rest level w.alive w.coded laws ke km ph pc
+    let answered : responded management_of own_rule cipher mid cmd ≡ (model m.contents (Open (session_to cipher k host card level)) rest, only Success) =
+    ap (λ (y : Model). responded management_of own_rule cipher y cmd) ws.model ∙ authenticate_answered cipher m.contents k host card rest level w.alive w.coded laws ke km ph pc
     in
     record {
       update = same_pair x _ _ (b.handed.command ∙ ap (λ (v : ℕ). update_command v host) has.version) ws.answer;

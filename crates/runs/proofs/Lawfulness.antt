@@ -4,26 +4,25 @@ use Rattle.std.proofs.lemmas.List.{same_from_push}
 use Rattle.answers.specs.declared.StatusWord.{StatusWord}
 use Rattle.answers.specs.declared.StatusWord.TheVariants as sw
 use Rattle.answers.specs.Replies.{Reply, reply_bytes}
-use Rattle.apdu.specs.declared.known.Instruction.{Instruction}
-use Rattle.apdu.specs.declared.known.Instruction.TheVariants.{Manage}
+use Rattle.apdu.specs.declared.Instruction.{Instruction}
+use Rattle.apdu.specs.declared.Instruction.TheVariants.{Manage}
 use Rattle.apdu.specs.declared.Management.{Management}
-use Rattle.apdu.specs.Apdu.{Apdu, apdu, known_class}
-use Rattle.apdu.specs.Known.{instruction_of, owns}
-use Rattle.manager.specs.Admitting.{admitted, is_terminated, in_own_class}
-use Rattle.manager.specs.declared.channel.Channel.{Channel}
-use Rattle.manager.specs.declared.channel.Channel.TheVariants.{Closed, Waiting, Open}
-use Rattle.manager.specs.Channels.{plain_allowed}
-use Rattle.manager.specs.Inside.{managed, obeyed}
-use Rattle.manager.specs.Models.{Model, model}
-use Rattle.manager.specs.Taking.{performed, taken, responded}
+use Rattle.apdu.specs.Apdu.{Apdu, apdu, known_class, instruction_of, owns, management_of}
+use Rattle.card.specs.Admitting.{admitted, is_terminated, in_own_class}
+use Rattle.card.specs.declared.channel.Channel.{Channel}
+use Rattle.card.specs.declared.channel.Channel.TheVariants.{Closed, Waiting, Open}
+use Rattle.card.specs.Channels.{plain_allowed}
+use Rattle.card.specs.Inside.{managed, obeyed}
+use Rattle.card.specs.Models.{Model, model}
+use Rattle.card.specs.Taking.{performed, taken, responded}
 use Rattle.challenge.specs.Draws.{Challenges}
 use Rattle.cipher.specs.Blocks.{Algorithm}
 use Rattle.contents.specs.Held.{Held}
-use Rattle.rules.specs.Own.{is_success}
+use Rattle.rules.specs.Own.{is_success, own_rule}
 use Rattle.scp01.specs.declared.Level.{Level}
 use Rattle.scp01.specs.declared.Level.TheVariants.{Plain, Mac, MacEncrypted}
 use Rattle.scp01.specs.declared.Session.{Session}
-use Rattle.scp01.specs.declared.SessionKeys.{SessionKeys}
+use Rattle.cipher.specs.declared.Keys.{Keys}
 use Rattle.scp01.specs.Levels.{session}
 use Rattle.scp01.specs.Inside.{unwrapped, code_in, chain_after, takes_class}
 use Rattle.runs.specs.Events.{Event, answered, is9000}
@@ -52,7 +51,7 @@ code_shown cipher s c ms read MacEncrypted chain e n = same_of _ _ (code_right c
 -- what the plain card says of a command that was read: its channel, the body, and the code
 pub record InChannel (cipher : Algorithm) (p : PlainCard) (c : Apdu) : Type 0 where
   pub level : Level
-  pub keys : SessionKeys
+  pub keys : Keys
   pub messages : List Message
   pub body : List ℕ
   pub next : List ℕ
@@ -61,7 +60,7 @@ pub record InChannel (cipher : Algorithm) (p : PlainCard) (c : Apdu) : Type 0 wh
   pub strict : plain_allowed p.contents.state ≡ false → is_plain level ≡ false
   pub code : is_plain level ≡ false → code_in c.field ≡ code_over cipher.enc keys.mac (messages ++ message c body ∷ [])
 
-read_inside : (cipher : Algorithm) (h : Held) (x : Channel) (coming : Challenges) (s : Session) (l : Line) (i : Management) (c : Apdu) (o : Option (List ℕ × List ℕ)) → Talking cipher s l → unwrapped cipher s (plain_allowed h.state) c s.level ≡ o → is_success (obeyed cipher (model h x coming) s i c o).1.status ≡ true → InChannel cipher (plain_card h l) c
+read_inside : (cipher : Algorithm) (h : Held) (x : Channel) (coming : Challenges) (s : Session) (l : Line) (i : Management) (c : Apdu) (o : Option (List ℕ × List ℕ)) → Talking cipher s l → unwrapped cipher s (plain_allowed h.state) c s.level ≡ o → is_success (obeyed own_rule cipher (model h x coming) s i c o).1.status ≡ true → InChannel cipher (plain_card h l) c
 read_inside cipher h x coming s l i c None t e done = let z : ◌≡◌ {A = ℕ} 0 1 = cc in absurd (omega arith)
 read_inside cipher h x coming s l i c (Some read) t e done =
     let how = read_how cipher s (plain_allowed h.state) c read e in
@@ -77,22 +76,22 @@ read_inside cipher h x coming s l i c (Some read) t e done =
       code = code_shown cipher s c t.messages read s.level t.chain how.chain;
     }
 
-managed_inside : (cipher : Algorithm) (h : Held) (x : Channel) (coming : Challenges) (l : Line) (i : Management) (c : Apdu) → Matches cipher x l → is_success (managed cipher (model h x coming) x i c).1.status ≡ true → InChannel cipher (plain_card h l) c
+managed_inside : (cipher : Algorithm) (h : Held) (x : Channel) (coming : Challenges) (l : Line) (i : Management) (c : Apdu) → Matches cipher x l → is_success (managed own_rule cipher (model h x coming) x i c).1.status ≡ true → InChannel cipher (plain_card h l) c
 managed_inside cipher h Closed coming l i c e done = let z : ◌≡◌ {A = ℕ} 0 1 = cc in absurd (omega arith)
 managed_inside cipher h (Waiting w) coming l i c e done = let z : ◌≡◌ {A = ℕ} 0 1 = cc in absurd (omega arith)
 managed_inside cipher h (Open s) coming l i c e done =
     read_inside cipher h (Open s) coming s l i c (unwrapped cipher s (plain_allowed h.state) c s.level) e refl done
 
 -- what the checks of taking a command refuse is not answered 9000
-pub performed_inside : (cipher : Algorithm) (h : Held) (x : Channel) (coming : Challenges) (l : Line) (i : Management) (c : Apdu) → Matches cipher x l → instruction_of c.instruction ≡ Some (Manage i) → is_success (performed cipher (model h x coming) (admitted h.state c) c).1.status ≡ true → InChannel cipher (plain_card h l) c
+pub performed_inside : (cipher : Algorithm) (h : Held) (x : Channel) (coming : Challenges) (l : Line) (i : Management) (c : Apdu) → Matches cipher x l → instruction_of management_of c.instruction ≡ Some (Manage i) → is_success (performed own_rule cipher (model h x coming) (admitted management_of h.state c) c).1.status ≡ true → InChannel cipher (plain_card h l) c
 performed_inside cipher h x coming l i c e is =
-    let P : Result Instruction StatusWord → Type 0 = λ r. is_success (performed cipher (model h x coming) r c).1.status ≡ true → InChannel cipher (plain_card h l) c in
+    let P : Result (Instruction Management) StatusWord → Type 0 = λ r. is_success (performed own_rule cipher (model h x coming) r c).1.status ≡ true → InChannel cipher (plain_card h l) c in
     let refuses : (s : StatusWord) → is_success s ≡ false → P (Err s) = λ s no' yes'. let z : ◌≡◌ {A = ℕ} 0 1 = cc in absurd (omega arith) in
-    let own : Bool → Result Instruction StatusWord = λ b. cond b (Ok (Manage i)) (Err sw.ClassUnknown) in
-    let known : Bool → Result Instruction StatusWord = λ b. cond b (own (owns (Manage i) c.class)) (Err sw.ClassUnknown) in
-    let ended : Bool → Result Instruction StatusWord = λ b. cond b (Err sw.ConditionsNotSatisfied) (known (known_class c.class)) in
-    let same : ended (is_terminated h.state) ≡ admitted h.state c =
-    ap (λ (o : Option Instruction). cond (is_terminated h.state) (Err sw.ConditionsNotSatisfied) (cond (known_class c.class) (in_own_class c.class o) (Err sw.ClassUnknown))) (sym is)
+    let own : Bool → Result (Instruction Management) StatusWord = λ b. cond b (Ok (Manage i)) (Err sw.ClassUnknown) in
+    let known : Bool → Result (Instruction Management) StatusWord = λ b. cond b (own (owns (Manage i) c.class)) (Err sw.ClassUnknown) in
+    let ended : Bool → Result (Instruction Management) StatusWord = λ b. cond b (Err sw.ConditionsNotSatisfied) (known (known_class c.class)) in
+    let same : ended (is_terminated h.state) ≡ admitted management_of h.state c =
+    ap (λ (o : Option (Instruction Management)). cond (is_terminated h.state) (Err sw.ConditionsNotSatisfied) (cond (known_class c.class) (in_own_class c.class o) (Err sw.ClassUnknown))) (sym is)
     in
     subst P same
     (elim (is_terminated h.state) as (λ b. P (ended b)) [
@@ -107,12 +106,12 @@ performed_inside cipher h x coming l i c e is =
     ])
 
 -- the event that comes next, where it is a changing command answered 9000
-next_inside : (cipher : Algorithm) (n : Model) (p : PlainCard) (e : Event) (cmd answer : List ℕ) (c : Apdu) (i : Management) → Follows cipher n p → Gives cipher n e → e ≡ answered cmd answer → apdu cmd ≡ Some c → instruction_of c.instruction ≡ Some (Manage i) → is9000 answer ≡ true → InChannel cipher p c
+next_inside : (cipher : Algorithm) (n : Model) (p : PlainCard) (e : Event) (cmd answer : List ℕ) (c : Apdu) (i : Management) → Follows cipher n p → Gives cipher n e → e ≡ answered cmd answer → apdu cmd ≡ Some c → instruction_of management_of c.instruction ≡ Some (Manage i) → is9000 answer ≡ true → InChannel cipher p c
 next_inside cipher n p e cmd answer c i f g is parsed ins done =
-    let given : answer ≡ reply_bytes (responded cipher n cmd).1 = subst (Gives cipher n) is g in
-    let read : responded cipher n cmd ≡ performed cipher n (admitted n.contents.state c) c = ap (taken cipher n) parsed in
-    let status : is_success (performed cipher n (admitted n.contents.state c) c).1.status ≡ true =
-    ap (λ (o : Model × Reply). is_success o.1.status) (sym read) ∙ sym (tells_success (responded cipher n cmd).1) ∙ ap is9000 (sym given) ∙ done
+    let given : answer ≡ reply_bytes (responded management_of own_rule cipher n cmd).1 = subst (Gives cipher n) is g in
+    let read : responded management_of own_rule cipher n cmd ≡ performed own_rule cipher n (admitted management_of n.contents.state c) c = ap (taken management_of own_rule cipher n) parsed in
+    let status : is_success (performed own_rule cipher n (admitted management_of n.contents.state c) c).1.status ≡ true =
+    ap (λ (o : Model × Reply). is_success o.1.status) (sym read) ∙ sym (tells_success (responded management_of own_rule cipher n cmd).1) ∙ ap is9000 (sym given) ∙ done
     in
     let P : PlainCard → Type 0 = λ q. InChannel cipher q c in
     subst P (sym f.is) (performed_inside cipher n.contents n.channel n.coming f.line i c f.channel ins status)
@@ -141,7 +140,7 @@ ends_how (x ∷ xs) =
     (ends_how xs)
 
 -- one event more: a cut of the events is at it, or before it
-lawful_more : (cipher : Algorithm) (start : Held) (es : List Event) (e : Event) → Lawful cipher start es → ((cmd answer : List ℕ) (c : Apdu) (i : Management) → e ≡ answered cmd answer → apdu cmd ≡ Some c → instruction_of c.instruction ≡ Some (Manage i) → is9000 answer ≡ true → Inside cipher start es c) → Lawful cipher start (es ++ e ∷ [])
+lawful_more : (cipher : Algorithm) (start : Held) (es : List Event) (e : Event) → Lawful cipher start es → ((cmd answer : List ℕ) (c : Apdu) (i : Management) → e ≡ answered cmd answer → apdu cmd ≡ Some c → instruction_of management_of c.instruction ≡ Some (Manage i) → is9000 answer ≡ true → Inside cipher start es c) → Lawful cipher start (es ++ e ∷ [])
 lawful_more cipher start es e was here before later cmd answer c i cut parsed ins moves done =
     let said = answered cmd answer in
     ⊎_elim

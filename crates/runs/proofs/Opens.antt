@@ -8,20 +8,20 @@ use Rattle.answers.specs.declared.StatusWord.TheVariants.{Success}
 use Rattle.answers.specs.Numbers.{status_bytes}
 use Rattle.answers.specs.Replies.{Reply, reply, only, reply_bytes}
 use Rattle.apdu.specs.Apdu.{Apdu}
-use Rattle.manager.specs.declared.channel.Channel.{Channel}
-use Rattle.manager.specs.declared.channel.Channel.TheVariants.{Closed, Waiting, Open}
-use Rattle.manager.specs.declared.channel.Handshake.{Handshake}
-use Rattle.manager.specs.Channels.{sized_channel, granted_level, waiting}
-use Rattle.manager.specs.Models.{Model, model}
-use Rattle.manager.specs.Opening.{keys_of, updated, begun, begun_with, authenticated, at_level, proved}
-use Rattle.manager.specs.Replies.{update_data}
+use Rattle.card.specs.declared.channel.Channel.{Channel}
+use Rattle.card.specs.declared.channel.Channel.TheVariants.{Closed, Waiting, Open}
+use Rattle.card.specs.declared.channel.Handshake.{Handshake}
+use Rattle.card.specs.Channels.{sized_channel, granted_level, waiting}
+use Rattle.card.specs.Models.{Model, model}
+use Rattle.card.specs.Opening.{keys_of, updated, begun, begun_with, authenticated, at_level, proved}
+use Rattle.card.specs.Replies.{update_data}
 use Rattle.challenge.specs.Draws.{Challenges}
 use Rattle.cipher.specs.Blocks.{Algorithm, zeros}
 use Rattle.contents.specs.declared.records.KeySet.{KeySet}
 use Rattle.contents.specs.Held.{Held}
 use Rattle.contents.specs.Records.{chosen_set}
 use Rattle.scp01.specs.declared.Level.{Level}
-use Rattle.scp01.specs.declared.SessionKeys.{SessionKeys}
+use Rattle.cipher.specs.declared.Keys.{Keys}
 use Rattle.scp01.specs.Levels.{session}
 use Rattle.scp01.specs.Session.{card_cryptogram, host_cryptogram, command_code}
 use Rattle.runs.specs.Events.{is9000}
@@ -89,24 +89,24 @@ code_over_one : (cipher : Algorithm) (key : List ℕ) (c : Apdu) → code_over c
 unfolding code_over
 code_over_one cipher key c = refl
 
-proved_follows : (cipher : Algorithm) (h : Held) (coming : Challenges) (k : KeySet) (w : Handshake) (level : Level) (c : Apdu) → w.keys ≡ keys_of cipher k w.host w.card → granted_level h.state c.p1 ≡ Some level → Follows cipher (proved cipher (model h Closed coming) w level c.p1 c.field).0 (hears_authenticate cipher h (asked k w.host w.card) c (reply_bytes (proved cipher (model h Closed coming) w level c.p1 c.field).1))
+proved_follows : (cipher : Algorithm) (h : Held) (coming : Challenges) (k : KeySet) (w : Handshake) (level : Level) (c : Apdu) → w.keys ≡ keys_of cipher k w.challenges.host w.challenges.card → granted_level h.state c.p1 ≡ Some level → Follows cipher (proved cipher (model h Closed coming) w level c.p1 c.field).0 (hears_authenticate cipher h (asked k w.challenges.host w.challenges.card) c (reply_bytes (proved cipher (model h Closed coming) w level c.p1 c.field).1))
 proved_follows cipher h coming k w level c keys granted =
     let m = model h Closed coming in
     let crypt = take 8 c.field in
     let right = command_code cipher.enc w.keys.mac zeros 0x82 c.p1 0x00 crypt in
-    let A = bytes_eq crypt (host_cryptogram cipher.enc w.keys.enc w.host w.card) in
+    let A = bytes_eq crypt (host_cryptogram cipher.enc w.keys.enc w.challenges.host w.challenges.card) in
     let B = bytes_eq (drop 8 c.field) right in
     let first : List Message = first_message c ∷ [] in
     let one = code_over_one cipher w.keys.mac c in
-    let hears : List ℕ → PlainCard = hears_authenticate cipher h (asked k w.host w.card) c in
+    let hears : List ℕ → PlainCard = hears_authenticate cipher h (asked k w.challenges.host w.challenges.card) c in
     let inner : Bool → Model × Reply = λ b. cond b (model h (Open (session level w.keys right)) coming, only sw.Success) (m, only sw.SecurityNotSatisfied) in
     let outer : Bool → Model × Reply = λ a. cond a (inner B) (m, only sw.CryptogramRejected) in
     let Fits : Model × Reply → Type 0 = λ out. Follows cipher out.0 (hears (reply_bytes out.1)) in
-    let opened : A ≡ true → B ≡ true → opened_by cipher h (asked k w.host w.card) c ≡ talking level w.keys first = λ a b.
+    let opened : A ≡ true → B ≡ true → opened_by cipher h (asked k w.challenges.host w.challenges.card) c ≡ talking level w.keys first = λ a b.
     let code : bytes_eq (drop 8 c.field) (code_over cipher.enc w.keys.mac first) ≡ true = ap (bytes_eq (drop 8 c.field)) one ∙ b in
-    let both : authenticates cipher w.keys w.host w.card c ≡ true = rw (a, code) refl in
-    ap (λ (j : SessionKeys). opened_at cipher j w.host w.card c (granted_level h.state c.p1)) (sym keys)
-    ∙ ap (opened_at cipher w.keys w.host w.card c) granted
+    let both : authenticates cipher w.keys w.challenges.host w.challenges.card c ≡ true = rw (a, code) refl in
+    ap (λ (j : Keys). opened_at cipher j w.challenges.host w.challenges.card c (granted_level h.state c.p1)) (sym keys)
+    ∙ ap (opened_at cipher w.keys w.challenges.host w.challenges.card c) granted
     ∙ ap (λ (x : Bool). cond x (talking level w.keys first) idle) both
     in
     elim A as (λ a. A ≡ a → Fits (outer a)) [
@@ -121,12 +121,12 @@ proved_follows cipher h coming k w level c keys granted =
       | false ↦ λ a. record { line = idle; is = refl; channel = refl }
     ] refl
 
-level_follows : (cipher : Algorithm) (h : Held) (coming : Challenges) (k : KeySet) (w : Handshake) (o : Option Level) (c : Apdu) → w.keys ≡ keys_of cipher k w.host w.card → granted_level h.state c.p1 ≡ o → Follows cipher (at_level cipher (model h Closed coming) w o c).0 (hears_authenticate cipher h (asked k w.host w.card) c (reply_bytes (at_level cipher (model h Closed coming) w o c).1))
+level_follows : (cipher : Algorithm) (h : Held) (coming : Challenges) (k : KeySet) (w : Handshake) (o : Option Level) (c : Apdu) → w.keys ≡ keys_of cipher k w.challenges.host w.challenges.card → granted_level h.state c.p1 ≡ o → Follows cipher (at_level cipher (model h Closed coming) w o c).0 (hears_authenticate cipher h (asked k w.challenges.host w.challenges.card) c (reply_bytes (at_level cipher (model h Closed coming) w o c).1))
 level_follows cipher h coming k w None c keys granted = record { line = idle; is = refl; channel = refl }
 level_follows cipher h coming k w (Some level) c keys granted =
     let m = model h Closed coming in
     let out : Bool → Model × Reply = λ b. cond b (proved cipher m w level c.p1 c.field) (m, only sw.WrongLength) in
-    elim (eqb (length c.field) 16) as (λ b. Follows cipher (out b).0 (hears_authenticate cipher h (asked k w.host w.card) c (reply_bytes (out b).1))) [
+    elim (eqb (length c.field) 16) as (λ b. Follows cipher (out b).0 (hears_authenticate cipher h (asked k w.challenges.host w.challenges.card) c (reply_bytes (out b).1))) [
       | true ↦ proved_follows cipher h coming k w level c keys granted
       | false ↦ record { line = idle; is = refl; channel = refl }
     ]
@@ -137,8 +137,8 @@ waiting_follows cipher h coming w l c a =
     let m = model h Closed coming in
     let out : Bool → Model × Reply = λ b. cond b (at_level cipher m w (granted_level h.state c.p1) c) (m, only sw.WrongParameters) in
     let P : Line → Type 0 = λ l. Follows cipher (authenticated cipher m (Some w) c).0 (hears_authenticate cipher h l c (reply_bytes (authenticated cipher m (Some w) c).1)) in
-    let here : P (asked a.set w.host w.card) =
-    elim (eqb c.p2 0x00) as (λ b. Follows cipher (out b).0 (hears_authenticate cipher h (asked a.set w.host w.card) c (reply_bytes (out b).1))) [
+    let here : P (asked a.set w.challenges.host w.challenges.card) =
+    elim (eqb c.p2 0x00) as (λ b. Follows cipher (out b).0 (hears_authenticate cipher h (asked a.set w.challenges.host w.challenges.card) c (reply_bytes (out b).1))) [
       | true ↦ level_follows cipher h coming a.set w (granted_level h.state c.p1) c a.keys refl
       | false ↦ record { line = idle; is = refl; channel = refl }
     ]

@@ -2,8 +2,8 @@
 use Rattle.std.proofs.Common.{◌≡◌, ℕ, List, [], ◌∷◌, ◌++◌, map, take, Some, None, Ok, Err, Option, Result, sym, refl, ap, ◌∙◌, subst, append_assoc}
 use Rattle.answers.specs.declared.Refusal.{Refusal}
 use Rattle.answers.specs.Replies.{reply_bytes}
-use Rattle.manager.specs.Models.{Model, Fit}
-use Rattle.manager.specs.Taking.{responded}
+use Rattle.card.specs.Models.{Model, Fit}
+use Rattle.card.specs.Taking.{responded}
 use Rattle.cipher.specs.Blocks.{Algorithm}
 use Rattle.terminal.specs.Sides.{Side, Outcome, update_command, wraps}
 use Rattle.runs.specs.Conversing.{Began, CarriedAs, Carried, events_if, opening_events, blank}
@@ -13,6 +13,8 @@ use Rattle.runs.specs.Sending.{SentAs, Sent, sending_event}
 use Rattle.runs.specs.Serving.{Sending}
 use Rattle.runs.specs.Turns.{Pair, event_of, HandedIn, Played}
 use Rattle.runs.proofs.Turning.{handed_turned, ran_more}
+use Rattle.apdu.specs.Apdu.{management_of}
+use Rattle.rules.specs.Own.{own_rule}
 
 pub none_behind : {X : Type 0} (xs : List X) → xs ++ [] ≡ xs
 none_behind [] = refl
@@ -66,7 +68,7 @@ sent_as_onward cipher m n bare (Err e) area noted fit s =
     subst P (sym s.0) (onward_none cipher m n s.1)
 sent_as_onward cipher m n bare (Ok k) area noted fit s =
     let cmd = take k area in
-    let x : Pair = (cmd, reply_bytes (responded cipher m cmd).1) in
+    let x : Pair = (cmd, reply_bytes (responded management_of own_rule cipher m cmd).1) in
     let P : Option Sending → Type 0 = λ o. Onward cipher m (map sending_event (noted_as o)) n in
     subst P (sym s.0) (onward_by cipher m n cmd x (record { command = refl; answer = refl; model = s.1; fit = fit }))
 

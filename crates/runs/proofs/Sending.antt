@@ -9,19 +9,18 @@ use Rattle.answers.specs.declared.StatusWord.TheVariants.{ConditionsNotSatisfied
 use Rattle.answers.specs.Areas.{fronted}
 use Rattle.answers.specs.Replies.{Reply, only, reply_bytes}
 use Rattle.apdu.specs.declared.Management.{Management}
-use Rattle.apdu.specs.Apdu.{Apdu, apdu, headed, with_field, management_of, known_class}
-use Rattle.apdu.specs.Known.{instruction_of}
-use Rattle.manager.specs.Admitting.{is_terminated, in_own_class}
-use Rattle.manager.specs.declared.channel.Channel.TheVariants.{Open}
-use Rattle.manager.specs.Inside.{kept_open}
-use Rattle.manager.specs.Models.{Model}
-use Rattle.manager.specs.Taking.{taken, performed, responded}
+use Rattle.apdu.specs.Apdu.{Apdu, apdu, headed, with_field, management_of, known_class, instruction_of}
+use Rattle.card.specs.Admitting.{is_terminated, in_own_class}
+use Rattle.card.specs.declared.channel.Channel.TheVariants.{Open}
+use Rattle.card.specs.Inside.{kept_open}
+use Rattle.card.specs.Models.{Model}
+use Rattle.card.specs.Taking.{taken, performed, responded}
 use Rattle.cipher.specs.Blocks.{Algorithm, Undoes}
 use Rattle.cipher.proofs.Xors.{small_take}
 use Rattle.contents.specs.Held.{Held}
 use Rattle.scp01.specs.declared.Level.{Level}
 use Rattle.scp01.specs.declared.Session.{Session}
-use Rattle.scp01.specs.declared.SessionKeys.{SessionKeys}
+use Rattle.cipher.specs.declared.Keys.{Keys}
 use Rattle.scp01.specs.Levels.{session}
 use Rattle.scp01.specs.Understanding.{Bytewise, Understood}
 use Rattle.scp01.specs.Wrapping.{command_bytes, sent_at, chain_sent, wrappable, wrapped}
@@ -39,6 +38,7 @@ use Rattle.runs.specs.Turns.{Pair, HandedIn}
 use Rattle.runs.proofs.Conversing.{small_drop}
 use Rattle.runs.proofs.Reaching.{none_behind, noted_as}
 use Rattle.runs.proofs.Serving.{wrapped_answered, wrapped_keyed, wrapped_serves}
+use Rattle.rules.specs.Own.{own_rule}
 
 -- A command of bytes has parts of bytes.
 
@@ -102,7 +102,7 @@ sent_behind level (first ∷ commands) command =
     ap (here (sendable level first)) more ∙ put (sendable level first) (sent_of level commands) (cond (sendable level command) (command ∷ []) [])
 
 -- the terminal refused: nothing moved
-passed_over : (cipher : Algorithm) (level : Level) (keys : SessionKeys) (start : Held) (n n' : Model) (u u' : Side) (commands : List (List ℕ)) (command : List ℕ) (pairs : List Sending) (noted : Option Sending) (e : Refusal) → Answered cipher level keys start n u commands pairs → Sent cipher n n' u u' command noted → terminal.wraps cipher u command blank ≡ refused_as u blank e → sendable level command ≡ false → Answered cipher level keys start n' u' (commands ++ command ∷ []) (pairs ++ noted_as noted)
+passed_over : (cipher : Algorithm) (level : Level) (keys : Keys) (start : Held) (n n' : Model) (u u' : Side) (commands : List (List ℕ)) (command : List ℕ) (pairs : List Sending) (noted : Option Sending) (e : Refusal) → Answered cipher level keys start n u commands pairs → Sent cipher n n' u u' command noted → terminal.wraps cipher u command blank ≡ refused_as u blank e → sendable level command ≡ false → Answered cipher level keys start n' u' (commands ++ command ∷ []) (pairs ++ noted_as noted)
 passed_over cipher level keys start n n' u u' commands command pairs noted e a s out no' =
     let P : Outcome → Type 0 = λ o. SentBy cipher n n' command o noted in
     let p = subst P out s.card in
@@ -115,21 +115,21 @@ passed_over cipher level keys start n n' u u' commands command pairs noted e a s
     subst Q (sym p.1) (subst R (sym left) (subst S (sym none) (record { shares = a.shares; serves = a.serves; sent = a.sent ∙ sym same })))
 
 -- a TERMINATED card takes no command
-terminated_answered : (cipher : Algorithm) (m : Model) (bytes : List ℕ) (sent : Apdu) → is_terminated m.contents.state ≡ true → apdu bytes ≡ Some sent → responded cipher m bytes ≡ (m, only ConditionsNotSatisfied)
+terminated_answered : (cipher : Algorithm) (m : Model) (bytes : List ℕ) (sent : Apdu) → is_terminated m.contents.state ≡ true → apdu bytes ≡ Some sent → responded management_of own_rule cipher m bytes ≡ (m, only ConditionsNotSatisfied)
 terminated_answered cipher m bytes sent dead read =
-    let own = in_own_class sent.class (instruction_of sent.instruction) in
-    ap (taken cipher m) read
-    ∙ ap (λ (b : Bool). performed cipher m (cond b (Err ConditionsNotSatisfied) (cond (known_class sent.class) own (Err ClassUnknown))) sent) dead
+    let own = in_own_class sent.class (instruction_of management_of sent.instruction) in
+    ap (taken management_of own_rule cipher m) read
+    ∙ ap (λ (b : Bool). performed own_rule cipher m (cond b (Err ConditionsNotSatisfied) (cond (known_class sent.class) own (Err ClassUnknown))) sent) dead
 
 -- what one command that was sent leaves
-record Moved (cipher : Algorithm) (level : Level) (keys : SessionKeys) (start : Held) (n : Model) (command bytes chain : List ℕ) (pairs : List Sending) : Type 0 where
-  serves : Serves cipher keys.kek start (pairs ++ (command, bytes, reply_bytes (responded cipher n bytes).1) ∷ []) (responded cipher n bytes).0.contents
-  card : is_terminated (responded cipher n bytes).0.contents.state ≡ false → (responded cipher n bytes).0.channel ≡ Open (session level keys chain)
+record Moved (cipher : Algorithm) (level : Level) (keys : Keys) (start : Held) (n : Model) (command bytes chain : List ℕ) (pairs : List Sending) : Type 0 where
+  serves : Serves cipher keys.kek start (pairs ++ (command, bytes, reply_bytes (responded management_of own_rule cipher n bytes).1) ∷ []) (responded management_of own_rule cipher n bytes).0.contents
+  card : is_terminated (responded management_of own_rule cipher n bytes).0.contents.state ≡ false → (responded management_of own_rule cipher n bytes).0.channel ≡ Open (session level keys chain)
 
 kept_open_is : (h : Held) (s : Session) → is_terminated h.state ≡ false → kept_open h.state s ≡ Open s
 kept_open_is h s alive = rw alive
 
-moved_alive : (cipher : Algorithm) (level : Level) (keys : SessionKeys) (chain : List ℕ) (start : Held) (n : Model) (command : List ℕ) (c : Apdu) (i : Management) (bytes next : List ℕ) (pairs : List Sending) → n.channel ≡ Open (session level keys chain) → is_terminated n.contents.state ≡ false → is_plain level ≡ false → apdu command ≡ Some c → management_of c.instruction ≡ Some i → Understood cipher (session level keys chain) c bytes next → Serves cipher keys.kek start pairs n.contents → Moved cipher level keys start n command bytes next pairs
+moved_alive : (cipher : Algorithm) (level : Level) (keys : Keys) (chain : List ℕ) (start : Held) (n : Model) (command : List ℕ) (c : Apdu) (i : Management) (bytes next : List ℕ) (pairs : List Sending) → n.channel ≡ Open (session level keys chain) → is_terminated n.contents.state ≡ false → is_plain level ≡ false → apdu command ≡ Some c → management_of c.instruction ≡ Some i → Understood cipher (session level keys chain) c bytes next → Serves cipher keys.kek start pairs n.contents → Moved cipher level keys start n command bytes next pairs
 moved_alive cipher level keys chain start n command c i bytes next pairs channel alive coded read is u before =
     let s = session level keys chain in
     let held = (rule_of cipher keys.kek n.contents i c).0 in
@@ -139,7 +139,7 @@ moved_alive cipher level keys chain start n command c i bytes next pairs channel
       card = λ still. ap (λ (o : Model × Reply). o.0.channel) out ∙ kept_open_is held (session level keys next) (ap (λ (o : Model × Reply). is_terminated o.0.contents.state) (sym out) ∙ still);
     }
 
-moved_dead : (cipher : Algorithm) (level : Level) (keys : SessionKeys) (start : Held) (n : Model) (command bytes next : List ℕ) (sent : Apdu) (pairs : List Sending) → is_terminated n.contents.state ≡ true → apdu bytes ≡ Some sent → Serves cipher keys.kek start pairs n.contents → Moved cipher level keys start n command bytes next pairs
+moved_dead : (cipher : Algorithm) (level : Level) (keys : Keys) (start : Held) (n : Model) (command bytes next : List ℕ) (sent : Apdu) (pairs : List Sending) → is_terminated n.contents.state ≡ true → apdu bytes ≡ Some sent → Serves cipher keys.kek start pairs n.contents → Moved cipher level keys start n command bytes next pairs
 moved_dead cipher level keys start n command bytes next sent pairs dead read before =
     let out = terminated_answered cipher n bytes sent dead read in
     let P : Model × Reply → Type 0 = λ o. Serves cipher keys.kek start (pairs ++ (command, bytes, reply_bytes o.1) ∷ []) o.0.contents in
@@ -148,7 +148,7 @@ moved_dead cipher level keys start n command bytes next sent pairs dead read bef
       card = λ still. absurd (true≢false (sym dead ∙ ap (λ (o : Model × Reply). is_terminated o.0.contents.state) (sym out) ∙ still));
     }
 
-moved : (cipher : Algorithm) (level : Level) (keys : SessionKeys) (chain : List ℕ) (start : Held) (n : Model) (command : List ℕ) (c : Apdu) (i : Management) (bytes next : List ℕ) (pairs : List Sending) → (is_terminated n.contents.state ≡ false → n.channel ≡ Open (session level keys chain)) → is_plain level ≡ false → apdu command ≡ Some c → management_of c.instruction ≡ Some i → Understood cipher (session level keys chain) c bytes next → Serves cipher keys.kek start pairs n.contents → Moved cipher level keys start n command bytes next pairs
+moved : (cipher : Algorithm) (level : Level) (keys : Keys) (chain : List ℕ) (start : Held) (n : Model) (command : List ℕ) (c : Apdu) (i : Management) (bytes next : List ℕ) (pairs : List Sending) → (is_terminated n.contents.state ≡ false → n.channel ≡ Open (session level keys chain)) → is_plain level ≡ false → apdu command ≡ Some c → management_of c.instruction ≡ Some i → Understood cipher (session level keys chain) c bytes next → Serves cipher keys.kek start pairs n.contents → Moved cipher level keys start n command bytes next pairs
 moved cipher level keys chain start n command c i bytes next pairs channel coded read is u before =
     elim (is_terminated n.contents.state) as (λ b. is_terminated n.contents.state ≡ b → Moved cipher level keys start n command bytes next pairs) [
       | true ↦ λ dead. moved_dead cipher level keys start n command bytes next u.sent pairs dead u.read before
@@ -156,7 +156,7 @@ moved cipher level keys chain start n command c i bytes next pairs channel coded
     ] refl
 
 -- the terminal wrapped it: it was handed in
-sent_on : (cipher : Algorithm) → Undoes cipher.enc cipher.dec → (level : Level) (keys : SessionKeys) (start : Held) (n n' : Model) (u u' : Side) (commands : List (List ℕ)) (command : List ℕ) (c : Apdu) (i : Management) (w : List ℕ × List ℕ) (pairs : List Sending) (noted : Option Sending) → (a : Answered cipher level keys start n u commands pairs) → Sent cipher n n' u u' command noted → is_plain level ≡ false → Small command → apdu command ≡ Some c → management_of c.instruction ≡ Some i → wrapped cipher (session level keys a.shares.chain) c ≡ Some w → terminal.wraps cipher u command blank ≡ sends (in_phase u (phase.Open (session level keys w.1))) blank w.0 → sendable level command ≡ true → Answered cipher level keys start n' u' (commands ++ command ∷ []) (pairs ++ noted_as noted)
+sent_on : (cipher : Algorithm) → Undoes cipher.enc cipher.dec → (level : Level) (keys : Keys) (start : Held) (n n' : Model) (u u' : Side) (commands : List (List ℕ)) (command : List ℕ) (c : Apdu) (i : Management) (w : List ℕ × List ℕ) (pairs : List Sending) (noted : Option Sending) → (a : Answered cipher level keys start n u commands pairs) → Sent cipher n n' u u' command noted → is_plain level ≡ false → Small command → apdu command ≡ Some c → management_of c.instruction ≡ Some i → wrapped cipher (session level keys a.shares.chain) c ≡ Some w → terminal.wraps cipher u command blank ≡ sends (in_phase u (phase.Open (session level keys w.1))) blank w.0 → sendable level command ≡ true → Answered cipher level keys start n' u' (commands ++ command ∷ []) (pairs ++ noted_as noted)
 sent_on cipher laws level keys start n n' u u' commands command c i w pairs noted a s coded small read is made out yes' =
     let old = session level keys a.shares.chain in
     let bytewise = read_bytes command c small read in
@@ -164,9 +164,9 @@ sent_on cipher laws level keys start n n' u u' commands command c i w pairs note
     let P : Outcome → Type 0 = λ o. SentBy cipher n n' command o noted in
     let p = subst P out s.card in
     let cut : take (length w.0) (fronted blank w.0) ≡ w.0 = take_at w.0 (drop (length w.0) blank) (length w.0) refl in
-    let entry : Sending = (command, w.0, reply_bytes (responded cipher n w.0).1) in
-    let is-noted : noted ≡ Some entry = p.0 ∙ ap (λ (b : List ℕ). Some (command, b, reply_bytes (responded cipher n b).1)) cut in
-    let is-next : n' ≡ (responded cipher n w.0).0 = p.1 ∙ ap (λ (b : List ℕ). (responded cipher n b).0) cut in
+    let entry : Sending = (command, w.0, reply_bytes (responded management_of own_rule cipher n w.0).1) in
+    let is-noted : noted ≡ Some entry = p.0 ∙ ap (λ (b : List ℕ). Some (command, b, reply_bytes (responded management_of own_rule cipher n b).1)) cut in
+    let is-next : n' ≡ (responded management_of own_rule cipher n w.0).0 = p.1 ∙ ap (λ (b : List ℕ). (responded management_of own_rule cipher n b).0) cut in
     let left : u' ≡ in_phase u (phase.Open (session level keys w.1)) = s.terminal ∙ ap (λ (o : Outcome). o.1) out in
     let m = moved cipher level keys a.shares.chain start n command c i w.0 w.1 pairs a.shares.card coded read is understood a.serves in
     let more : pairs ++ noted_as noted ≡ pairs ++ entry ∷ [] = ap (λ (o : Option Sending). pairs ++ noted_as o) is-noted in
@@ -174,8 +174,8 @@ sent_on cipher laws level keys start n n' u u' commands command c i w pairs note
     map_push (λ (q : Sending). q.0) pairs entry ∙ ap (λ (xs : List (List ℕ)). xs ++ command ∷ []) a.sent ∙ ap (λ (b : Bool). sent_of level commands ++ cond b (command ∷ []) []) (sym yes') ∙ sym (sent_behind level commands command)
     in
     let Q : Model → Type 0 = λ x. Answered cipher level keys start x u' (commands ++ command ∷ []) (pairs ++ noted_as noted) in
-    let R : Side → Type 0 = λ x. Answered cipher level keys start (responded cipher n w.0).0 x (commands ++ command ∷ []) (pairs ++ noted_as noted) in
-    let S : List Sending → Type 0 = λ x. Answered cipher level keys start (responded cipher n w.0).0 (in_phase u (phase.Open (session level keys w.1))) (commands ++ command ∷ []) x in
+    let R : Side → Type 0 = λ x. Answered cipher level keys start (responded management_of own_rule cipher n w.0).0 x (commands ++ command ∷ []) (pairs ++ noted_as noted) in
+    let S : List Sending → Type 0 = λ x. Answered cipher level keys start (responded management_of own_rule cipher n w.0).0 (in_phase u (phase.Open (session level keys w.1))) (commands ++ command ∷ []) x in
     subst Q (sym is-next) (subst R (sym left) (subst S (sym more) (record {
       shares = record { chain = w.1; keyed = wrapped_keyed cipher laws old c w a.shares.keyed bytewise made; terminal = refl; card = m.card };
       serves = m.serves;
@@ -187,7 +187,7 @@ sent_on cipher laws level keys start n n' u u' commands command c i w pairs note
 wraps_opened : (cipher : Algorithm) (u : Side) (s : Session) (command : List ℕ) → u.phase ≡ phase.Open s → terminal.wraps cipher u command blank ≡ terminal.wraps_in cipher u s (apdu command) blank
 wraps_opened cipher u s command opened = ap (λ (p : Phase). terminal.wraps_when cipher u p command blank) opened
 
-one_more : (cipher : Algorithm) → Undoes cipher.enc cipher.dec → (level : Level) (keys : SessionKeys) (start : Held) (n n' : Model) (u u' : Side) (commands : List (List ℕ)) (command : List ℕ) (pairs : List Sending) (noted : Option Sending) → Answered cipher level keys start n u commands pairs → Sent cipher n n' u u' command noted → is_plain level ≡ false → Small command → Answered cipher level keys start n' u' (commands ++ command ∷ []) (pairs ++ noted_as noted)
+one_more : (cipher : Algorithm) → Undoes cipher.enc cipher.dec → (level : Level) (keys : Keys) (start : Held) (n n' : Model) (u u' : Side) (commands : List (List ℕ)) (command : List ℕ) (pairs : List Sending) (noted : Option Sending) → Answered cipher level keys start n u commands pairs → Sent cipher n n' u u' command noted → is_plain level ≡ false → Small command → Answered cipher level keys start n' u' (commands ++ command ∷ []) (pairs ++ noted_as noted)
 one_more cipher laws level keys start n n' u u' commands command pairs noted a s coded small =
     let Goal : Type 0 = Answered cipher level keys start n' u' (commands ++ command ∷ []) (pairs ++ noted_as noted) in
     let old = session level keys a.shares.chain in
@@ -234,13 +234,13 @@ pub sent_from : (cipher : Algorithm) (m n : Model) (t u : Side) (command given a
 sent_from cipher m n t u command given area k x is h g =
     let cut : take (k - 0) area ≡ take k area = ap (λ (i : ℕ). take i area) (sub-zero k) in
     let P : Outcome → Type 0 = λ o. SentBy cipher m n command o (Some (given, x.0, x.1)) in
-    let entry : List ℕ → Sending = λ b. (command, b, reply_bytes (responded cipher m b).1) in
+    let entry : List ℕ → Sending = λ b. (command, b, reply_bytes (responded management_of own_rule cipher m b).1) in
     let e₀ = h.command in
     let e₁ = h.answer in
     let first : (given, x.0, x.1) ≡ entry (take (k - 0) area) = cc in
     record {
       terminal = ap (λ (o : Outcome). o.1) is;
-      card = subst P is (ap (λ (y : Sending). Some y) (first ∙ ap entry cut), h.model ∙ ap (λ (b : List ℕ). (responded cipher m b).0) cut);
+      card = subst P is (ap (λ (y : Sending). Some y) (first ∙ ap entry cut), h.model ∙ ap (λ (b : List ℕ). (responded management_of own_rule cipher m b).0) cut);
     }
 
 -- one command more of the list

@@ -12,22 +12,21 @@ use Rattle.answers.specs.declared.StatusWord.{StatusWord}
 use Rattle.answers.specs.declared.StatusWord.TheVariants.{Success, CryptogramRejected, WrongLength, SecurityNotSatisfied, ConditionsNotSatisfied, WrongParameters, NotFound, ClassUnknown}
 use Rattle.answers.specs.Numbers.{status_bytes}
 use Rattle.answers.specs.Replies.{Reply, only, reply_bytes}
-use Rattle.apdu.specs.declared.known.Instruction.{Instruction}
-use Rattle.apdu.specs.declared.known.Instruction.TheVariants.{Select, InitializeUpdate, ExternalAuthenticate, Manage}
+use Rattle.apdu.specs.declared.Instruction.{Instruction}
+use Rattle.apdu.specs.declared.Instruction.TheVariants.{Select, InitializeUpdate, ExternalAuthenticate, Manage}
 use Rattle.apdu.specs.declared.Management.{Management}
-use Rattle.apdu.specs.Apdu.{Apdu, apdu, headed, management_of, known_class}
-use Rattle.apdu.specs.Known.{instruction_of, owns}
-use Rattle.manager.specs.Admitting.{admitted, is_terminated, in_own_class}
-use Rattle.manager.specs.declared.channel.Channel.{Channel}
-use Rattle.manager.specs.declared.channel.Channel.TheVariants.{Closed, Waiting, Open}
-use Rattle.manager.specs.declared.channel.Handshake.{Handshake}
-use Rattle.manager.specs.Channels.{handshake, granted_level, plain_allowed, entered, used_up, waiting}
-use Rattle.manager.specs.Inside.{kept_open, obeyed, managed}
-use Rattle.manager.specs.Models.{Model, model, with_channel}
-use Rattle.manager.specs.Opening.{keys_of, begun, begun_with, updated, authenticated, at_level, proved}
-use Rattle.manager.specs.Replies.{update_data}
-use Rattle.manager.specs.Selecting.{selected}
-use Rattle.manager.specs.Taking.{ruled, performed, taken, responded}
+use Rattle.apdu.specs.Apdu.{Apdu, apdu, headed, management_of, known_class, instruction_of, owns}
+use Rattle.card.specs.Admitting.{admitted, is_terminated, in_own_class}
+use Rattle.card.specs.declared.channel.Channel.{Channel}
+use Rattle.card.specs.declared.channel.Channel.TheVariants.{Closed, Waiting, Open}
+use Rattle.card.specs.declared.channel.Handshake.{Handshake}
+use Rattle.card.specs.Channels.{handshake, granted_level, plain_allowed, entered, used_up, waiting}
+use Rattle.card.specs.Inside.{kept_open, obeyed, managed}
+use Rattle.card.specs.Models.{Model, model, with_channel}
+use Rattle.card.specs.Opening.{keys_of, begun, begun_with, updated, authenticated, at_level, proved}
+use Rattle.card.specs.Replies.{update_data}
+use Rattle.card.specs.Selecting.{selected}
+use Rattle.card.specs.Taking.{ruled, performed, taken, responded}
 use Rattle.challenge.specs.Draws.{Challenges}
 use Rattle.cipher.specs.Blocks.{Algorithm, Direction, Bytes, Undoes, zeros}
 use Rattle.cipher.proofs.Chains.{bytes_mac, small_zeros}
@@ -40,7 +39,7 @@ use Rattle.rules.specs.Own.{own_rule, is_success}
 use Rattle.scp01.specs.declared.Level.{Level}
 use Rattle.scp01.specs.declared.Level.TheVariants.{Plain, Mac, MacEncrypted}
 use Rattle.scp01.specs.declared.Session.{Session}
-use Rattle.scp01.specs.declared.SessionKeys.{SessionKeys}
+use Rattle.cipher.specs.declared.Keys.{Keys}
 use Rattle.scp01.specs.Inside.{unwrapped, takes_class}
 use Rattle.scp01.specs.Levels.{level_of, level_value, session}
 use Rattle.scp01.specs.Session.{session_keys, session_key, first_derivation, second_derivation, card_cryptogram, host_cryptogram, command_code, coded}
@@ -73,7 +72,7 @@ read_field cla ins p1 p2 lc field long some =
 
 -- INITIALIZE UPDATE with the version of a set on the card.
 
-update_admitted : (state : CardState) (v : ℕ) (host : List ℕ) → is_terminated state ≡ false → admitted state (bare 0x80 0x50 v 0x00 host) ≡ Ok InitializeUpdate
+update_admitted : (state : CardState) (v : ℕ) (host : List ℕ) → is_terminated state ≡ false → admitted management_of state (bare 0x80 0x50 v 0x00 host) ≡ Ok InitializeUpdate
 update_admitted state v host alive = rw alive
 
 chosen_set_is : (v : ℕ) (ks : List KeySet) (k : KeySet) → 1 ≤ v → set_of_version v ks ≡ Some k → chosen_set v ks ≡ Some k
@@ -84,11 +83,11 @@ update_drawn cipher m k host card rest v eight is coming =
     let long = eq-eqb (length host) 8 eight in
     rw (long, is, coming)
 
-pub update_answered_is : (cipher : Algorithm) (m : Model) (k : KeySet) (v : ℕ) (host card : List ℕ) (rest : Challenges) → is_terminated m.contents.state ≡ false → m.coming ≡ card ∷ rest → 1 ≤ v → set_of_version v m.contents.sets ≡ Some k → length host ≡ 8 → responded cipher m (update_command v host) ≡ challenged cipher m.contents k host card rest
+pub update_answered_is : (cipher : Algorithm) (m : Model) (k : KeySet) (v : ℕ) (host card : List ℕ) (rest : Challenges) → is_terminated m.contents.state ≡ false → m.coming ≡ card ∷ rest → 1 ≤ v → set_of_version v m.contents.sets ≡ Some k → length host ≡ 8 → responded management_of own_rule cipher m (update_command v host) ≡ challenged cipher m.contents k host card rest
 update_answered_is cipher m k v host card rest alive coming some is eight =
     let c = bare 0x80 0x50 v 0x00 host in
-    ap (taken cipher m) (read_field 0x80 0x50 v 0x00 0x08 host eight (omega arith))
-    ∙ ap (λ (r : Result Instruction StatusWord). performed cipher m r c) (update_admitted m.contents.state v host alive)
+    ap (taken management_of own_rule cipher m) (read_field 0x80 0x50 v 0x00 0x08 host eight (omega arith))
+    ∙ ap (λ (r : Result (Instruction Management) StatusWord). performed own_rule cipher m r c) (update_admitted m.contents.state v host alive)
     ∙ update_drawn cipher (with_channel m Closed) k host card rest v eight (chosen_set_is v m.contents.sets k some is) coming
 
 -- Blocks of the right length: session keys, cryptograms and codes.
@@ -204,22 +203,22 @@ update_accepted d card crypt v ld lc lk =
 
 -- The lengths of what both ends come to.
 
-pub card_cryptogram_long : (cipher : Algorithm) (k : KeySet) (host card : List ℕ) → Undoes cipher.enc cipher.dec → Bytes 16 k.enc → Bytes 8 host → Bytes 8 card → length (card_cryptogram cipher.enc (keys_of cipher k host card).enc host card) ≡ 8
+pub card_cryptogram_long : (cipher : Algorithm) (k : KeySet) (host card : List ℕ) → Undoes cipher.enc cipher.dec → Bytes 16 k.keys.enc → Bytes 8 host → Bytes 8 card → length (card_cryptogram cipher.enc (keys_of cipher k host card).enc host card) ≡ 8
 card_cryptogram_long cipher k host card laws ke ph pc =
-    let key = bytes_session_key cipher.enc cipher.dec laws k.enc host card ke ph pc in
+    let key = bytes_session_key cipher.enc cipher.dec laws k.keys.enc host card ke ph pc in
     (bytes_cryptogram cipher.enc cipher.dec laws (keys_of cipher k host card).enc host card key ph pc).long
 
-bytes_to : (cipher : Algorithm) (k : KeySet) (host card : List ℕ) → Undoes cipher.enc cipher.dec → Bytes 16 k.enc → Bytes 8 host → Bytes 8 card → Bytes 8 (cryptogram_to cipher k host card)
+bytes_to : (cipher : Algorithm) (k : KeySet) (host card : List ℕ) → Undoes cipher.enc cipher.dec → Bytes 16 k.keys.enc → Bytes 8 host → Bytes 8 card → Bytes 8 (cryptogram_to cipher k host card)
 bytes_to cipher k host card laws ke ph pc =
-    let key = bytes_session_key cipher.enc cipher.dec laws k.enc host card ke ph pc in
+    let key = bytes_session_key cipher.enc cipher.dec laws k.keys.enc host card ke ph pc in
     bytes_cryptogram cipher.enc cipher.dec laws (keys_of cipher k host card).enc card host key pc ph
 
 -- the session of a channel just opened has session keys of sixteen bytes and a chaining value of eight
-pub opened_keyed : (cipher : Algorithm) (k : KeySet) (host card : List ℕ) (level : Level) → Undoes cipher.enc cipher.dec → Bytes 16 k.enc → Bytes 16 k.mac → Bytes 8 host → Bytes 8 card → Keyed (session_to cipher k host card level)
+pub opened_keyed : (cipher : Algorithm) (k : KeySet) (host card : List ℕ) (level : Level) → Undoes cipher.enc cipher.dec → Bytes 16 k.keys.enc → Bytes 16 k.keys.mac → Bytes 8 host → Bytes 8 card → Keyed (session_to cipher k host card level)
 opened_keyed cipher k host card level laws ke km ph pc =
-    let mac = bytes_session_key cipher.enc cipher.dec laws k.mac host card km ph pc in
+    let mac = bytes_session_key cipher.enc cipher.dec laws k.keys.mac host card km ph pc in
     record {
-      enc = bytes_session_key cipher.enc cipher.dec laws k.enc host card ke ph pc;
+      enc = bytes_session_key cipher.enc cipher.dec laws k.keys.enc host card ke ph pc;
       mac = mac;
       chain = bytes_first_code cipher.enc cipher.dec laws (keys_of cipher k host card).mac (cryptogram_to cipher k host card) level mac (bytes_to cipher k host card laws ke ph pc);
     }
@@ -241,7 +240,7 @@ same : (xs : List ℕ) → bytes_eq xs xs ≡ true
 same xs = (bytes_eq-Decides xs xs).1 refl
 
 -- the terminal's session keys are the card's
-same_keys : (cipher : Algorithm) (t : Side) (k : KeySet) (host card : List ℕ) → HasSet t k → session_keys cipher.enc t.enc t.mac t.kek host card ≡ keys_of cipher k host card
+same_keys : (cipher : Algorithm) (t : Side) (k : KeySet) (host card : List ℕ) → HasSet t k → session_keys cipher.enc t.keys.enc t.keys.mac t.keys.kek host card ≡ keys_of cipher k host card
 same_keys cipher t k host card has =
     let e = has.enc in
     let m = has.mac in
@@ -252,11 +251,11 @@ checks_shown : (cipher : Algorithm) (t : Side) (k : KeySet) (host card area : Li
 checks_shown cipher t k host card area level has =
     let crypt = card_cryptogram cipher.enc (keys_of cipher k host card).enc host card in
     let right = same crypt in
-    let after : SessionKeys → Outcome = λ j. cond (bytes_eq crypt (card_cryptogram cipher.enc j.enc host card)) (opens cipher t j host card level area) (terminal.refused_as (in_phase t phase.Made) area WrongCryptogram) in
+    let after : Keys → Outcome = λ j. cond (bytes_eq crypt (card_cryptogram cipher.enc j.enc host card)) (opens cipher t j host card level area) (terminal.refused_as (in_phase t phase.Made) area WrongCryptogram) in
     ap after (same_keys cipher t k host card has) ∙ rw right
 
 -- the terminal trusts the card's answer to its INITIALIZE UPDATE, and sends EXTERNAL AUTHENTICATE
-pub update_trusted : (cipher : Algorithm) (t : Side) (h : Held) (k : KeySet) (host card : List ℕ) (rest : Challenges) (area : List ℕ) (level : Level) → HasSet t k → t.phase ≡ phase.Begun host → 261 ≤ length area → length h.diversification ≡ 10 → Undoes cipher.enc cipher.dec → Bytes 16 k.enc → Bytes 8 host → Bytes 8 card → terminal.authenticates cipher t (reply_bytes (challenged cipher h k host card rest).1) (level_value level) area ≡ sends (in_phase t (phase.Open (session_to cipher k host card level))) area (authenticate_command (level_value level) (cryptogram_to cipher k host card) (code_to cipher k host card level))
+pub update_trusted : (cipher : Algorithm) (t : Side) (h : Held) (k : KeySet) (host card : List ℕ) (rest : Challenges) (area : List ℕ) (level : Level) → HasSet t k → t.phase ≡ phase.Begun host → 261 ≤ length area → length h.diversification ≡ 10 → Undoes cipher.enc cipher.dec → Bytes 16 k.keys.enc → Bytes 8 host → Bytes 8 card → terminal.authenticates cipher t (reply_bytes (challenged cipher h k host card rest).1) (level_value level) area ≡ sends (in_phase t (phase.Open (session_to cipher k host card level))) area (authenticate_command (level_value level) (cryptogram_to cipher k host card) (code_to cipher k host card level))
 update_trusted cipher t h k host card rest area level has begun room ten laws ke ph pc =
     let answer = reply_bytes (challenged cipher h k host card rest).1 in
     let crypt = card_cryptogram cipher.enc (keys_of cipher k host card).enc host card in
@@ -272,7 +271,7 @@ update_trusted cipher t h k host card rest area level has begun room ten laws ke
 
 -- EXTERNAL AUTHENTICATE on the card that waits.
 
-authenticate_admitted : (state : CardState) (p1 : ℕ) (field : List ℕ) → is_terminated state ≡ false → admitted state (bare 0x84 0x82 p1 0x00 field) ≡ Ok ExternalAuthenticate
+authenticate_admitted : (state : CardState) (p1 : ℕ) (field : List ℕ) → is_terminated state ≡ false → admitted management_of state (bare 0x84 0x82 p1 0x00 field) ≡ Ok ExternalAuthenticate
 authenticate_admitted state p1 field alive = rw alive
 
 -- levels with codes are granted in every state
@@ -282,15 +281,15 @@ level_granted state Mac coded = refl
 level_granted state MacEncrypted coded = refl
 
 -- the right cryptogram and the right code behind it
-proved_right : (cipher : Algorithm) (m : Model) (w : Handshake) (level : Level) (p1 : ℕ) (crypt code : List ℕ) → length crypt ≡ 8 → crypt ≡ host_cryptogram cipher.enc w.keys.enc w.host w.card → code ≡ command_code cipher.enc w.keys.mac zeros 0x82 p1 0x00 crypt → proved cipher m w level p1 (crypt ++ code) ≡ (with_channel m (Open (session level w.keys code)), only Success)
+proved_right : (cipher : Algorithm) (m : Model) (w : Handshake) (level : Level) (p1 : ℕ) (crypt code : List ℕ) → length crypt ≡ 8 → crypt ≡ host_cryptogram cipher.enc w.keys.enc w.challenges.host w.challenges.card → code ≡ command_code cipher.enc w.keys.mac zeros 0x82 p1 0x00 crypt → proved cipher m w level p1 (crypt ++ code) ≡ (with_channel m (Open (session level w.keys code)), only Success)
 proved_right cipher m w level p1 crypt code eight is made =
     let front = take_at crypt code 8 eight in
     let back = drop_at crypt code 8 eight in
-    let shown : bytes_eq crypt (host_cryptogram cipher.enc w.keys.enc w.host w.card) ≡ true = ap (bytes_eq crypt) (sym is) ∙ same crypt in
+    let shown : bytes_eq crypt (host_cryptogram cipher.enc w.keys.enc w.challenges.host w.challenges.card) ≡ true = ap (bytes_eq crypt) (sym is) ∙ same crypt in
     let right = same code in
     rw (front, back, shown, ← made, right)
 
-authenticate_proved : (cipher : Algorithm) (m : Model) (w : Handshake) (level : Level) (crypt code : List ℕ) → is_plain level ≡ false → length crypt ≡ 8 → length code ≡ 8 → crypt ≡ host_cryptogram cipher.enc w.keys.enc w.host w.card → code ≡ command_code cipher.enc w.keys.mac zeros 0x82 (level_value level) 0x00 crypt → authenticated cipher m (Some w) (bare 0x84 0x82 (level_value level) 0x00 (crypt ++ code)) ≡ (with_channel m (Open (session level w.keys code)), only Success)
+authenticate_proved : (cipher : Algorithm) (m : Model) (w : Handshake) (level : Level) (crypt code : List ℕ) → is_plain level ≡ false → length crypt ≡ 8 → length code ≡ 8 → crypt ≡ host_cryptogram cipher.enc w.keys.enc w.challenges.host w.challenges.card → code ≡ command_code cipher.enc w.keys.mac zeros 0x82 (level_value level) 0x00 crypt → authenticated cipher m (Some w) (bare 0x84 0x82 (level_value level) 0x00 (crypt ++ code)) ≡ (with_channel m (Open (session level w.keys code)), only Success)
 authenticate_proved cipher m w level crypt code coded eight again is made =
     let c = bare 0x84 0x82 (level_value level) 0x00 (crypt ++ code) in
     let long : length (crypt ++ code) ≡ 16 = simp length-append (omega arith) in
@@ -299,7 +298,7 @@ authenticate_proved cipher m w level crypt code coded eight again is made =
     ∙ ap (λ (b : Bool). cond b (proved cipher m w level (level_value level) (crypt ++ code)) (m, only WrongLength)) sixteen
     ∙ proved_right cipher m w level (level_value level) crypt code eight is made
 
-pub authenticate_answered : (cipher : Algorithm) (h : Held) (k : KeySet) (host card : List ℕ) (rest : Challenges) (level : Level) → is_terminated h.state ≡ false → is_plain level ≡ false → Undoes cipher.enc cipher.dec → Bytes 16 k.enc → Bytes 16 k.mac → Bytes 8 host → Bytes 8 card → responded cipher (model h (Waiting (handshake (keys_of cipher k host card) host card)) rest) (authenticate_command (level_value level) (cryptogram_to cipher k host card) (code_to cipher k host card level)) ≡ (model h (Open (session_to cipher k host card level)) rest, only Success)
+pub authenticate_answered : (cipher : Algorithm) (h : Held) (k : KeySet) (host card : List ℕ) (rest : Challenges) (level : Level) → is_terminated h.state ≡ false → is_plain level ≡ false → Undoes cipher.enc cipher.dec → Bytes 16 k.keys.enc → Bytes 16 k.keys.mac → Bytes 8 host → Bytes 8 card → responded management_of own_rule cipher (model h (Waiting (handshake (keys_of cipher k host card) host card)) rest) (authenticate_command (level_value level) (cryptogram_to cipher k host card) (code_to cipher k host card level)) ≡ (model h (Open (session_to cipher k host card level)) rest, only Success)
 authenticate_answered cipher h k host card rest level alive coded laws ke km ph pc =
     let w = handshake (keys_of cipher k host card) host card in
     let m = model h (Waiting w) rest in
@@ -309,8 +308,8 @@ authenticate_answered cipher h k host card rest level alive coded laws ke km ph 
     let again = (opened_keyed cipher k host card level laws ke km ph pc).chain.long in
     let long : length (crypt ++ code) ≡ 16 = length-append crypt code ∙ omega (arith, eight, again) in
     let c = bare 0x84 0x82 (level_value level) 0x00 (crypt ++ code) in
-    ap (taken cipher m) (read_field 0x84 0x82 (level_value level) 0x00 0x10 (crypt ++ code) long (omega arith))
-    ∙ ap (λ (r : Result Instruction StatusWord). performed cipher m r c) (authenticate_admitted h.state (level_value level) (crypt ++ code) alive)
+    ap (taken management_of own_rule cipher m) (read_field 0x84 0x82 (level_value level) 0x00 0x10 (crypt ++ code) long (omega arith))
+    ∙ ap (λ (r : Result (Instruction Management) StatusWord). performed own_rule cipher m r c) (authenticate_admitted h.state (level_value level) (crypt ++ code) alive)
     ∙ authenticate_proved cipher (model h Closed rest) w level crypt code coded eight again refl refl
 
 -- A wrapped command on the card whose channel is open.
@@ -330,39 +329,39 @@ unwrapped_either cipher s plain other c MacEncrypted coded = refl
 not_other : (ins n : ℕ) (i : Management) → management_of ins ≡ Some i → management_of n ≡ None → eqb ins n ≡ false
 not_other ins n i is none = ne_eqb ins n (λ e. let p : None ≡ Some i = sym none ∙ ap management_of (sym e) ∙ is in let z : ◌≡◌ {A = ℕ} 0 1 = cc in omega arith)
 
-management_instruction : (ins : ℕ) (i : Management) → management_of ins ≡ Some i → instruction_of ins ≡ Some (Manage i)
+management_instruction : (ins : ℕ) (i : Management) → management_of ins ≡ Some i → instruction_of management_of ins ≡ Some (Manage i)
 management_instruction ins i is =
     let select = not_other ins 0xA4 i is refl in
     let update = not_other ins 0x50 i is refl in
     let authenticate = not_other ins 0x82 i is refl in
     rw (select, update, authenticate, is)
 
-management_admitted : (state : CardState) (c : Apdu) (i : Management) → is_terminated state ≡ false → c.class ≡ 0x84 → management_of c.instruction ≡ Some i → admitted state c ≡ Ok (Manage i)
+management_admitted : (state : CardState) (c : Apdu) (i : Management) → is_terminated state ≡ false → c.class ≡ 0x84 → management_of c.instruction ≡ Some i → admitted management_of state c ≡ Ok (Manage i)
 management_admitted state c i alive class is =
     let ins = management_instruction c.instruction i is in
     rw (alive, class, ins)
 
-read_obeyed : (cipher : Algorithm) (m : Model) (s : Session) (i : Management) (c sent : Apdu) (chain : List ℕ) → SameHeader sent c → obeyed cipher m s i sent (Some (c.field, chain)) ≡ (model (rule_of cipher s.keys.kek m.contents i c).0 (kept_open (rule_of cipher s.keys.kek m.contents i c).0.state (session s.level s.keys chain)) m.coming, (rule_of cipher s.keys.kek m.contents i c).1)
+read_obeyed : (cipher : Algorithm) (m : Model) (s : Session) (i : Management) (c sent : Apdu) (chain : List ℕ) → SameHeader sent c → obeyed own_rule cipher m s i sent (Some (c.field, chain)) ≡ (model (rule_of cipher s.keys.kek m.contents i c).0 (kept_open (rule_of cipher s.keys.kek m.contents i c).0.state (session s.level s.keys chain)) m.coming, (rule_of cipher s.keys.kek m.contents i c).1)
 read_obeyed cipher m s i c sent chain h =
     let out : ℕ → ℕ → Held × Reply = λ p q. own_rule cipher s.keys.kek m.contents i p q c.field in
     let all : ℕ → ℕ → Model × Reply = λ p q. (model (out p q).0 (kept_open (out p q).0.state (session s.level s.keys chain)) m.coming, (out p q).1) in
     ap (λ (p : ℕ). all p sent.p2) h.p1 ∙ ap (all c.p1) h.p2
 
-pub wrapped_answered : (cipher : Algorithm) (m : Model) (s : Session) (c : Apdu) (i : Management) (bytes chain : List ℕ) → m.channel ≡ Open s → is_terminated m.contents.state ≡ false → is_plain s.level ≡ false → management_of c.instruction ≡ Some i → Understood cipher s c bytes chain → responded cipher m bytes ≡ (model (rule_of cipher s.keys.kek m.contents i c).0 (kept_open (rule_of cipher s.keys.kek m.contents i c).0.state (session s.level s.keys chain)) m.coming, (rule_of cipher s.keys.kek m.contents i c).1)
+pub wrapped_answered : (cipher : Algorithm) (m : Model) (s : Session) (c : Apdu) (i : Management) (bytes chain : List ℕ) → m.channel ≡ Open s → is_terminated m.contents.state ≡ false → is_plain s.level ≡ false → management_of c.instruction ≡ Some i → Understood cipher s c bytes chain → responded management_of own_rule cipher m bytes ≡ (model (rule_of cipher s.keys.kek m.contents i c).0 (kept_open (rule_of cipher s.keys.kek m.contents i c).0.state (session s.level s.keys chain)) m.coming, (rule_of cipher s.keys.kek m.contents i c).1)
 wrapped_answered cipher m s c i bytes chain channel alive coded is u =
     let sent = u.sent in
     let how = read_how cipher s true sent (c.field, chain) u.body in
     let class = coded_class true sent.class s.level coded how.class in
     let plain = plain_allowed m.contents.state in
     let read : unwrapped cipher s plain sent s.level ≡ Some (c.field, chain) = unwrapped_either cipher s plain true sent s.level coded ∙ u.body in
-    ap (taken cipher m) u.read
-    ∙ ap (λ (r : Result Instruction StatusWord). performed cipher m r sent) (management_admitted m.contents.state sent i alive class (ap management_of u.header.instruction ∙ is))
-    ∙ ap (λ (x : Channel). managed cipher m x i sent) channel
-    ∙ ap (obeyed cipher m s i sent) read
+    ap (taken management_of own_rule cipher m) u.read
+    ∙ ap (λ (r : Result (Instruction Management) StatusWord). performed own_rule cipher m r sent) (management_admitted m.contents.state sent i alive class (ap management_of u.header.instruction ∙ is))
+    ∙ ap (λ (x : Channel). managed own_rule cipher m x i sent) channel
+    ∙ ap (obeyed own_rule cipher m s i sent) read
     ∙ read_obeyed cipher m s i c sent chain u.header
 
 -- one command more was sent and answered by its rule
-pub wrapped_serves : (cipher : Algorithm) (m : Model) (s : Session) (c : Apdu) (i : Management) (h : Held) (es : List Sending) (command bytes chain : List ℕ) → m.channel ≡ Open s → is_terminated m.contents.state ≡ false → is_plain s.level ≡ false → apdu command ≡ Some c → management_of c.instruction ≡ Some i → Understood cipher s c bytes chain → Serves cipher s.keys.kek h es m.contents → Serves cipher s.keys.kek h (es ++ (command, bytes, reply_bytes (responded cipher m bytes).1) ∷ []) (responded cipher m bytes).0.contents
+pub wrapped_serves : (cipher : Algorithm) (m : Model) (s : Session) (c : Apdu) (i : Management) (h : Held) (es : List Sending) (command bytes chain : List ℕ) → m.channel ≡ Open s → is_terminated m.contents.state ≡ false → is_plain s.level ≡ false → apdu command ≡ Some c → management_of c.instruction ≡ Some i → Understood cipher s c bytes chain → Serves cipher s.keys.kek h es m.contents → Serves cipher s.keys.kek h (es ++ (command, bytes, reply_bytes (responded management_of own_rule cipher m bytes).1) ∷ []) (responded management_of own_rule cipher m bytes).0.contents
 wrapped_serves cipher m s c i h es command bytes chain channel alive coded read is u before =
     let P : Model × Reply → Type 0 = λ out. Serves cipher s.keys.kek h (es ++ (command, bytes, reply_bytes out.1) ∷ []) out.0.contents in
     subst P (sym (wrapped_answered cipher m s c i bytes chain channel alive coded is u)) (served command bytes (reply_bytes (rule_of cipher s.keys.kek m.contents i c).1) c i before read is alive refl)
@@ -388,23 +387,23 @@ wrapped_keyed cipher laws s c w k b e =
 
 -- How many challenges a run takes.
 
-abbrev is_updating : Instruction → Bool
+abbrev is_updating : Instruction Management → Bool
 is_updating Select = false
 is_updating InitializeUpdate = true
 is_updating ExternalAuthenticate = false
 is_updating (Manage i) = false
 
-updating_manage : (i : Instruction) (o : Option Management) → option_map Manage o ≡ Some i → is_updating i ≡ false
+updating_manage : (i : Instruction Management) (o : Option Management) → option_map Manage o ≡ Some i → is_updating i ≡ false
 updating_manage i None e = let z : ◌≡◌ {A = ℕ} 0 1 = cc in absurd (omega arith)
 updating_manage i (Some j) e = let same : i ≡ Manage j = cc in ap is_updating same
 
 -- only 50 is INITIALIZE UPDATE
-updating : (ins : ℕ) (i : Instruction) → instruction_of ins ≡ Some i → eqb ins 0x50 ≡ is_updating i
+updating : (ins : ℕ) (i : Instruction Management) → instruction_of management_of ins ≡ Some i → eqb ins 0x50 ≡ is_updating i
 updating ins i =
-    let other : Option Instruction = option_map Manage (management_of ins) in
-    let third : Bool → Option Instruction = λ b. cond b (Some ExternalAuthenticate) other in
-    let second : Bool → Option Instruction = λ b. cond b (Some InitializeUpdate) (third (eqb ins 0x82)) in
-    let first : Bool → Option Instruction = λ b. cond b (Some Select) (second (eqb ins 0x50)) in
+    let other : Option (Instruction Management) = option_map Manage (management_of ins) in
+    let third : Bool → Option (Instruction Management) = λ b. cond b (Some ExternalAuthenticate) other in
+    let second : Bool → Option (Instruction Management) = λ b. cond b (Some InitializeUpdate) (third (eqb ins 0x82)) in
+    let first : Bool → Option (Instruction Management) = λ b. cond b (Some Select) (second (eqb ins 0x50)) in
     let selects : eqb ins 0xA4 ≡ true → Some Select ≡ Some i → eqb ins 0x50 ≡ is_updating i = λ h e.
     let is = eqb-true ins 0xA4 h in
     let same : Select ≡ i = cc in
@@ -421,12 +420,12 @@ updating ins i =
       ]
     ] refl
 
--- what is admitted is the instruction in its own class, and what is not is not answered 9000
-abbrev Admits : Apdu → Result Instruction StatusWord → Type 0
+-- what is admitted management_of is the instruction in its own class, and what is not is not answered 9000
+abbrev Admits : Apdu → Result (Instruction Management) StatusWord → Type 0
 Admits c (Err status) = is_success status ≡ false
-Admits c (Ok i) = (instruction_of c.instruction ≡ Some i) × (owns i c.class ≡ true)
+Admits c (Ok i) = (instruction_of management_of c.instruction ≡ Some i) × (owns i c.class ≡ true)
 
-own_class_admits : (c : Apdu) (o : Option Instruction) → instruction_of c.instruction ≡ o → Admits c (in_own_class c.class o)
+own_class_admits : (c : Apdu) (o : Option (Instruction Management)) → instruction_of management_of c.instruction ≡ o → Admits c (in_own_class c.class o)
 own_class_admits c None is = refl
 own_class_admits c (Some i) is =
     elim (owns i c.class) as (λ b. owns i c.class ≡ b → Admits c (cond b (Ok i) (Err ClassUnknown))) [
@@ -434,14 +433,14 @@ own_class_admits c (Some i) is =
       | false ↦ λ h. refl
     ] refl
 
-admits : (state : CardState) (c : Apdu) → Admits c (admitted state c)
+admits : (state : CardState) (c : Apdu) → Admits c (admitted management_of state c)
 admits state c =
-    let own = in_own_class c.class (instruction_of c.instruction) in
-    let known : Bool → Result Instruction StatusWord = λ b. cond b own (Err ClassUnknown) in
+    let own = in_own_class c.class (instruction_of management_of c.instruction) in
+    let known : Bool → Result (Instruction Management) StatusWord = λ b. cond b own (Err ClassUnknown) in
     elim (is_terminated state) as (λ b. Admits c (cond b (Err ConditionsNotSatisfied) (known (known_class c.class)))) [
       | true ↦ refl
       | false ↦ elim (known_class c.class) as (λ b. Admits c (known b)) [
-        | true ↦ own_class_admits c (instruction_of c.instruction) refl
+        | true ↦ own_class_admits c (instruction_of management_of c.instruction) refl
         | false ↦ refl
       ]
     ]
@@ -486,7 +485,7 @@ proved_keeps cipher m w level p1 field =
     let crypt = take 8 field in
     let right = command_code cipher.enc w.keys.mac zeros 0x82 p1 0x00 crypt in
     let inner : Bool → Model × Reply = λ b. cond b (with_channel m (Open (session level w.keys right)), only Success) (m, only SecurityNotSatisfied) in
-    elim (bytes_eq crypt (host_cryptogram cipher.enc w.keys.enc w.host w.card)) as (λ b. (cond b (inner (bytes_eq (drop 8 field) right)) (m, only CryptogramRejected)).0.coming ≡ m.coming) [
+    elim (bytes_eq crypt (host_cryptogram cipher.enc w.keys.enc w.challenges.host w.challenges.card)) as (λ b. (cond b (inner (bytes_eq (drop 8 field) right)) (m, only CryptogramRejected)).0.coming ≡ m.coming) [
       | true ↦ elim (bytes_eq (drop 8 field) right) as (λ b. (inner b).0.coming ≡ m.coming) [ true ↦ refl | false ↦ refl ]
       | false ↦ refl
     ]
@@ -507,11 +506,11 @@ authenticate_keeps cipher m (Some w) c =
       | false ↦ refl
     ]
 
-obeyed_keeps : (cipher : Algorithm) (m : Model) (s : Session) (i : Management) (c : Apdu) (o : Option (List ℕ × List ℕ)) → (obeyed cipher m s i c o).0.coming ≡ m.coming
+obeyed_keeps : (cipher : Algorithm) (m : Model) (s : Session) (i : Management) (c : Apdu) (o : Option (List ℕ × List ℕ)) → (obeyed own_rule cipher m s i c o).0.coming ≡ m.coming
 obeyed_keeps cipher m s i c None = refl
 obeyed_keeps cipher m s i c (Some read) = refl
 
-managed_keeps : (cipher : Algorithm) (m : Model) (x : Channel) (i : Management) (c : Apdu) → (managed cipher m x i c).0.coming ≡ m.coming
+managed_keeps : (cipher : Algorithm) (m : Model) (x : Channel) (i : Management) (c : Apdu) → (managed own_rule cipher m x i c).0.coming ≡ m.coming
 managed_keeps cipher m Closed i c = refl
 managed_keeps cipher m (Waiting w) i c = refl
 managed_keeps cipher m (Open s) i c = obeyed_keeps cipher m s i c (unwrapped cipher s (plain_allowed m.contents.state) c s.level)
@@ -519,25 +518,25 @@ managed_keeps cipher m (Open s) i c = obeyed_keeps cipher m s i c (unwrapped cip
 kept_counts : (coming : Challenges) (out : Model × Reply) → out.0.coming ≡ coming → Counts (length coming) false out
 kept_counts coming out same = let e = ap (λ (x : Challenges). length x) same in omega arith
 
-rule_counts : (cipher : Algorithm) (h : Held) (x : Channel) (coming : Challenges) (i : Instruction) (c : Apdu) → Counts (length coming) (is_updating i) (ruled cipher (model h (entered x i) coming) (used_up x i) i c)
+rule_counts : (cipher : Algorithm) (h : Held) (x : Channel) (coming : Challenges) (i : Instruction Management) (c : Apdu) → Counts (length coming) (is_updating i) (ruled own_rule cipher (model h (entered x i) coming) (used_up x i) i c)
 rule_counts cipher h x coming Select c = kept_counts coming (model h Closed coming, selected h c) refl
 rule_counts cipher h x coming InitializeUpdate c = update_counts cipher h coming c
 rule_counts cipher h x coming ExternalAuthenticate c =
     kept_counts coming (authenticated cipher (model h Closed coming) (waiting x) c) (authenticate_keeps cipher (model h Closed coming) (waiting x) c)
 rule_counts cipher h x coming (Manage i) c =
-    kept_counts coming (managed cipher (model h x coming) x i c) (managed_keeps cipher (model h x coming) x i c)
+    kept_counts coming (managed own_rule cipher (model h x coming) x i c) (managed_keeps cipher (model h x coming) x i c)
 
--- the instruction is INITIALIZE UPDATE and the class its own, just where it is admitted as such
-update_told : (c : Apdu) (i : Instruction) → eqb c.instruction 0x50 ≡ is_updating i → owns i c.class ≡ true → (eqb c.instruction 0x50 && eqb c.class 0x80) ≡ is_updating i
+-- the instruction is INITIALIZE UPDATE and the class its own, just where it is admitted management_of as such
+update_told : (c : Apdu) (i : Instruction Management) → eqb c.instruction 0x50 ≡ is_updating i → owns i c.class ≡ true → (eqb c.instruction 0x50 && eqb c.class 0x80) ≡ is_updating i
 update_told c Select is own = rw is
 update_told c InitializeUpdate is own = rw (is, own)
 update_told c ExternalAuthenticate is own = rw is
 update_told c (Manage i) is own = rw is
 
-performed_counts : (cipher : Algorithm) (m : Model) (r : Result Instruction StatusWord) (c : Apdu) → Admits c r → Counts (length m.coming) (eqb c.instruction 0x50 && eqb c.class 0x80) (performed cipher m r c)
+performed_counts : (cipher : Algorithm) (m : Model) (r : Result (Instruction Management) StatusWord) (c : Apdu) → Admits c r → Counts (length m.coming) (eqb c.instruction 0x50 && eqb c.class 0x80) (performed own_rule cipher m r c)
 performed_counts cipher m (Err status) c a = refusal_counts (eqb c.instruction 0x50 && eqb c.class 0x80) m (only status) a
 performed_counts cipher m (Ok i) c a =
-    let out = performed cipher m (Ok i) c in
+    let out = performed own_rule cipher m (Ok i) c in
     let P : Bool → Type 0 = λ b. Counts (length m.coming) b out in
     subst P (sym (update_told c i (updating c.instruction i a.0) a.1)) (rule_counts cipher m.contents m.channel m.coming i c)
 
@@ -545,22 +544,22 @@ and_regrouped : (a b c : Bool) → (a && (b && c)) ≡ ((a && b) && c)
 and_regrouped true b c = refl
 and_regrouped false b c = refl
 
-taken_counts : (cipher : Algorithm) (m : Model) (o : Option Apdu) → length m.coming ≡ update_answered o (reply_bytes (taken cipher m o).1) + length (taken cipher m o).0.coming
+taken_counts : (cipher : Algorithm) (m : Model) (o : Option Apdu) → length m.coming ≡ update_answered o (reply_bytes (taken management_of own_rule cipher m o).1) + length (taken management_of own_rule cipher m o).0.coming
 taken_counts cipher m None = omega arith
 taken_counts cipher m (Some c) =
-    let out = taken cipher m (Some c) in
+    let out = taken management_of own_rule cipher m (Some c) in
     let a = eqb c.instruction 0x50 in
     let b = eqb c.class 0x80 in
     let P : Bool → Type 0 = λ x. length m.coming ≡ cond x 1 0 + length out.0.coming in
     let told : (a && (b && is9000 (reply_bytes out.1))) ≡ ((a && b) && is_success out.1.status) =
     ap (λ (x : Bool). a && (b && x)) (tells_success out.1) ∙ and_regrouped a b (is_success out.1.status)
     in
-    subst P (sym told) (performed_counts cipher m (admitted m.contents.state c) c (admits m.contents.state c))
+    subst P (sym told) (performed_counts cipher m (admitted management_of m.contents.state c) c (admits m.contents.state c))
 
 event_counts : (cipher : Algorithm) (m : Model) (e : Event) → Gives cipher m e → length m.coming ≡ challenges_taken e + length (after cipher m e).coming
 event_counts cipher m reset g = omega arith
 event_counts cipher m (answered cmd answer) g =
-    let P : List ℕ → Type 0 = λ a. length m.coming ≡ update_answered (apdu cmd) a + length (responded cipher m cmd).0.coming in
+    let P : List ℕ → Type 0 = λ a. length m.coming ≡ update_answered (apdu cmd) a + length (responded management_of own_rule cipher m cmd).0.coming in
     subst P (sym g) (taken_counts cipher m (apdu cmd))
 
 -- a run takes one challenge for each INITIALIZE UPDATE answered 9000, and no other

@@ -4,20 +4,20 @@ use Rattle.std.specs.Str.{bytes_eq}
 use Rattle.std.proofs.lemmas.List.Sums.{fold_push}
 use Rattle.std.proofs.lemmas.Bool.{and_parts}
 use Rattle.answers.specs.declared.StatusWord.{StatusWord}
-use Rattle.apdu.specs.declared.known.Instruction.{Instruction}
-use Rattle.apdu.specs.declared.known.Instruction.TheVariants.{Select, InitializeUpdate, ExternalAuthenticate, Manage}
+use Rattle.apdu.specs.declared.Instruction.{Instruction}
+use Rattle.apdu.specs.declared.Instruction.TheVariants.{Select, InitializeUpdate, ExternalAuthenticate, Manage}
 use Rattle.apdu.specs.declared.Management.{Management}
-use Rattle.apdu.specs.Apdu.{Apdu, apdu}
-use Rattle.manager.specs.Admitting.{admitted, is_terminated}
-use Rattle.manager.specs.Channels.{granted_level, plain_allowed}
-use Rattle.manager.specs.Models.{Model}
-use Rattle.manager.specs.Opening.{keys_of}
+use Rattle.apdu.specs.Apdu.{Apdu, apdu, management_of}
+use Rattle.card.specs.Admitting.{admitted, is_terminated}
+use Rattle.card.specs.Channels.{granted_level, plain_allowed}
+use Rattle.card.specs.Models.{Model}
+use Rattle.card.specs.Opening.{keys_of}
 use Rattle.cipher.specs.Blocks.{Algorithm}
 use Rattle.contents.specs.declared.records.KeySet.{KeySet}
 use Rattle.contents.specs.Held.{Held}
 use Rattle.contents.specs.Records.{chosen_set}
 use Rattle.scp01.specs.declared.Level.{Level}
-use Rattle.scp01.specs.declared.SessionKeys.{SessionKeys}
+use Rattle.cipher.specs.declared.Keys.{Keys}
 use Rattle.scp01.specs.Inside.{unwrapped}
 use Rattle.scp01.specs.Session.{host_cryptogram}
 use Rattle.runs.specs.Events.{Event, reset, answered, is9000}
@@ -33,7 +33,7 @@ untaken_since cipher start es cmd answer (asked k host card) t h = ignored es k 
 untaken_since cipher start es cmd answer (talking level keys ms) t h = passed es level keys ms cmd answer h t
 
 -- a channel command
-read_since : (cipher : Algorithm) (start : Held) (es : List Event) (cmd answer : List ℕ) (c : Apdu) (i : Management) (level : Level) (keys : SessionKeys) (ms : List Message) (o : Option (List ℕ × List ℕ)) → taken_in (holding cipher start es).state cmd ≡ Some (Manage i, c) → OpenSince cipher start es level keys ms → unwrapped cipher (session_of cipher level keys ms) (plain_allowed (holding cipher start es).state) c level ≡ o → holding cipher start (es ++ answered cmd answer ∷ []) ≡ (read_as cipher (holding cipher start es) level keys ms i c answer o).contents → History cipher start (es ++ answered cmd answer ∷ []) (read_as cipher (holding cipher start es) level keys ms i c answer o).line
+read_since : (cipher : Algorithm) (start : Held) (es : List Event) (cmd answer : List ℕ) (c : Apdu) (i : Management) (level : Level) (keys : Keys) (ms : List Message) (o : Option (List ℕ × List ℕ)) → taken_in (holding cipher start es).state cmd ≡ Some (Manage i, c) → OpenSince cipher start es level keys ms → unwrapped cipher (session_of cipher level keys ms) (plain_allowed (holding cipher start es).state) c level ≡ o → holding cipher start (es ++ answered cmd answer ∷ []) ≡ (read_as cipher (holding cipher start es) level keys ms i c answer o).contents → History cipher start (es ++ answered cmd answer ∷ []) (read_as cipher (holding cipher start es) level keys ms i c answer o).line
 read_since cipher start es cmd answer c i level keys ms None t h e next = tt
 read_since cipher start es cmd answer c i level keys ms (Some r) t h e next =
     let ms' = found_right level ms (message c r.0) in
@@ -62,7 +62,7 @@ update_since cipher start es cmd answer c t =
     ] refl
 
 -- EXTERNAL AUTHENTICATE
-authentic : (cipher : Algorithm) (keys : SessionKeys) (host card : List ℕ) (c : Apdu) → authenticates cipher keys host card c ≡ true → Authentic cipher keys host card c
+authentic : (cipher : Algorithm) (keys : Keys) (host card : List ℕ) (c : Apdu) → authenticates cipher keys host card c ≡ true → Authentic cipher keys host card c
 authentic cipher keys host card c e =
     let p = and_parts (bytes_eq (take 8 c.field) (host_cryptogram cipher.enc keys.enc host card)) (bytes_eq (drop 8 c.field) (code_over cipher.enc keys.mac (first_message c ∷ []))) e in
     record { cryptogram = same_of _ _ p.0; code = same_of _ _ p.1 }
@@ -85,7 +85,7 @@ authenticate_since cipher start es cmd answer c (asked k host card) t done h = o
 authenticate_since cipher start es cmd answer c (talking level keys ms) t done h = tt
 
 -- any command
-as_since : (cipher : Algorithm) (start : Held) (es : List Event) (cmd answer : List ℕ) (c : Apdu) (i : Instruction) (l : Line) → taken_in (holding cipher start es).state cmd ≡ Some (i, c) → History cipher start es l → holding cipher start (es ++ answered cmd answer ∷ []) ≡ (noted_as cipher (plain_card (holding cipher start es) l) i c answer).contents → History cipher start (es ++ answered cmd answer ∷ []) (noted_as cipher (plain_card (holding cipher start es) l) i c answer).line
+as_since : (cipher : Algorithm) (start : Held) (es : List Event) (cmd answer : List ℕ) (c : Apdu) (i : Instruction Management) (l : Line) → taken_in (holding cipher start es).state cmd ≡ Some (i, c) → History cipher start es l → holding cipher start (es ++ answered cmd answer ∷ []) ≡ (noted_as cipher (plain_card (holding cipher start es) l) i c answer).contents → History cipher start (es ++ answered cmd answer ∷ []) (noted_as cipher (plain_card (holding cipher start es) l) i c answer).line
 as_since cipher start es cmd answer c Select l t h next = tt
 as_since cipher start es cmd answer c InitializeUpdate l t h next = update_since cipher start es cmd answer c t
 as_since cipher start es cmd answer c ExternalAuthenticate l t h next =
@@ -95,13 +95,13 @@ as_since cipher start es cmd answer c ExternalAuthenticate l t h next =
     ] refl
 as_since cipher start es cmd answer c (Manage i) l t h next = manage_since cipher start es cmd answer c i l t h next
 
-if_since : (cipher : Algorithm) (start : Held) (es : List Event) (cmd answer : List ℕ) (c : Apdu) (r : Result Instruction StatusWord) (l : Line) → taken_in (holding cipher start es).state cmd ≡ taken_for c r → History cipher start es l → holding cipher start (es ++ answered cmd answer ∷ []) ≡ (noted_if cipher (plain_card (holding cipher start es) l) r c answer).contents → History cipher start (es ++ answered cmd answer ∷ []) (noted_if cipher (plain_card (holding cipher start es) l) r c answer).line
+if_since : (cipher : Algorithm) (start : Held) (es : List Event) (cmd answer : List ℕ) (c : Apdu) (r : Result (Instruction Management) StatusWord) (l : Line) → taken_in (holding cipher start es).state cmd ≡ taken_for c r → History cipher start es l → holding cipher start (es ++ answered cmd answer ∷ []) ≡ (noted_if cipher (plain_card (holding cipher start es) l) r c answer).contents → History cipher start (es ++ answered cmd answer ∷ []) (noted_if cipher (plain_card (holding cipher start es) l) r c answer).line
 if_since cipher start es cmd answer c (Err status) l t h next = untaken_since cipher start es cmd answer l t h
 if_since cipher start es cmd answer c (Ok i) l t h next = as_since cipher start es cmd answer c i l t h next
 
 noted_since : (cipher : Algorithm) (start : Held) (es : List Event) (cmd answer : List ℕ) (o : Option Apdu) (l : Line) → taken_in (holding cipher start es).state cmd ≡ taken_if (holding cipher start es).state o → History cipher start es l → holding cipher start (es ++ answered cmd answer ∷ []) ≡ (noted cipher (plain_card (holding cipher start es) l) o answer).contents → History cipher start (es ++ answered cmd answer ∷ []) (noted cipher (plain_card (holding cipher start es) l) o answer).line
 noted_since cipher start es cmd answer None l t h next = untaken_since cipher start es cmd answer l t h
-noted_since cipher start es cmd answer (Some c) l t h next = if_since cipher start es cmd answer c (admitted (holding cipher start es).state c) l t h next
+noted_since cipher start es cmd answer (Some c) l t h next = if_since cipher start es cmd answer c (admitted management_of (holding cipher start es).state c) l t h next
 
 event_since : (cipher : Algorithm) (start : Held) (es : List Event) (e : Event) → History cipher start es (observed cipher (plain_card start idle) es).line → observed cipher (plain_card start idle) (es ++ e ∷ []) ≡ observe cipher (observed cipher (plain_card start idle) es) e → History cipher start (es ++ e ∷ []) (observe cipher (observed cipher (plain_card start idle) es) e).line
 event_since cipher start es reset h next = tt

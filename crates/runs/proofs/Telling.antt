@@ -1,7 +1,7 @@
 -- What is promised of a run follows from the run.
 use Rattle.std.proofs.Common.{◌≡◌, List, sym, ap, ◌∙◌}
-use Rattle.manager.specs.declared.channel.Channel.TheVariants.{Closed}
-use Rattle.manager.specs.Models.{Model}
+use Rattle.card.specs.declared.channel.Channel.TheVariants.{Closed}
+use Rattle.card.specs.Models.{Model}
 use Rattle.cipher.specs.Blocks.{Algorithm}
 use Rattle.runs.specs.Events.{Event, Input}
 use Rattle.runs.specs.Plain.{PlainCard, plain_card, idle}

@@ -5,21 +5,23 @@ use Rattle.std.proofs.lemmas.List.{take_at, length-append, map_push, map_more}
 use Rattle.answers.specs.declared.Refusal.{Refusal}
 use Rattle.answers.specs.Areas.{fronted}
 use Rattle.answers.specs.Replies.{reply_bytes}
-use Rattle.manager.specs.Cards.{Processed, processed}
-use Rattle.manager.specs.Models.{Model, Fit}
-use Rattle.manager.specs.Taking.{responded}
+use Rattle.card.specs.Cards.{Processed, processed}
+use Rattle.card.specs.Models.{Model, Fit}
+use Rattle.card.specs.Taking.{responded}
 use Rattle.cipher.specs.Blocks.{Algorithm}
 use Rattle.runs.specs.declared.turns.Turn.{Turn}
 use Rattle.runs.specs.Events.{Event, Input, command, input_of}
 use Rattle.runs.specs.Runs.{Ran, begun, then}
 use Rattle.runs.specs.Turns.{input_in, Pair, event_of, Handed, HandedIn, Turned, Played}
+use Rattle.apdu.specs.Apdu.{management_of}
+use Rattle.rules.specs.Own.{own_rule}
 
 pub front_within : (before bytes area : List ℕ) (k : ℕ) → area ≡ fronted before bytes → k ≡ length bytes → k ≤ length area
 front_within before bytes area k is count = rw (is, length-append bytes (drop (length bytes) before)) (omega arith)
 
-pub handed : (cipher : Algorithm) (m n : Model) (cmd before work area worked : List ℕ) (k : ℕ) → 258 ≤ length before → 256 ≤ length work → Processed (Ok k) n area worked (processed cipher m cmd before work) → Handed cipher m n cmd area k
+pub handed : (cipher : Algorithm) (m n : Model) (cmd before work area worked : List ℕ) (k : ℕ) → 258 ≤ length before → 256 ≤ length work → Processed (Ok k) n area worked (processed management_of own_rule cipher m cmd before work) → Handed cipher m n cmd area k
 handed cipher m n cmd before work area worked k room space p =
-    let out = responded cipher m cmd in
+    let out = responded management_of own_rule cipher m cmd in
     let a : ltb (length before) 258 ≡ false = le-ltb (length before) 258 room in
     let b : ltb (length work) 256 ≡ false = le-ltb (length work) 256 space in
     let q : Processed (Ok k) n area worked (Ok (length (reply_bytes out.1)), out.0, fronted before (reply_bytes out.1), _) = rw (a, b) at p in
@@ -31,9 +33,9 @@ handed cipher m n cmd before work area worked k room space p =
     }
 
 -- and it is not refused
-pub never_cramped : (cipher : Algorithm) (m n : Model) (cmd before work area worked : List ℕ) (e : Refusal) → 258 ≤ length before → 256 ≤ length work → Processed (Err e) n area worked (processed cipher m cmd before work) → ⊥
+pub never_cramped : (cipher : Algorithm) (m n : Model) (cmd before work area worked : List ℕ) (e : Refusal) → 258 ≤ length before → 256 ≤ length work → Processed (Err e) n area worked (processed management_of own_rule cipher m cmd before work) → ⊥
 never_cramped cipher m n cmd before work area worked e room space p =
-    let out = responded cipher m cmd in
+    let out = responded management_of own_rule cipher m cmd in
     let a : ltb (length before) 258 ≡ false = le-ltb (length before) 258 room in
     let b : ltb (length work) 256 ≡ false = le-ltb (length work) 256 space in
     let q : Processed (Err e) n area worked (Ok (length (reply_bytes out.1)), out.0, fronted before (reply_bytes out.1), _) = rw (a, b) at p in
@@ -49,8 +51,8 @@ handed_in cipher m n cmd given area said k h fit g s = record { command = g; ans
 pub handed_turned : (cipher : Algorithm) (m n : Model) (cmd : List ℕ) (x : Pair) → HandedIn cipher m n cmd x → Turned cipher m n (command cmd) (event_of x)
 handed_turned cipher m n cmd x h = record {
   same = ap command h.command;
-  gives = h.answer ∙ ap (λ (b : List ℕ). reply_bytes (responded cipher m b).1) (sym h.command);
-  model = h.model ∙ ap (λ (b : List ℕ). (responded cipher m b).0) (sym h.command);
+  gives = h.answer ∙ ap (λ (b : List ℕ). reply_bytes (responded management_of own_rule cipher m b).1) (sym h.command);
+  model = h.model ∙ ap (λ (b : List ℕ). (responded management_of own_rule cipher m b).0) (sym h.command);
   fit = h.fit;
 }
 

@@ -5,9 +5,9 @@ use Rattle.std.specs.declared.alloc.Global.{Global}
 use Rattle.answers.specs.declared.Refusal.{Refusal}
 use Rattle.answers.specs.declared.StatusWord.TheVariants.{Success}
 use Rattle.answers.specs.Numbers.{refusal_number, status_bytes}
-use Rattle.manager.specs.Admitting.{is_terminated}
-use Rattle.manager.specs.declared.channel.Channel.TheVariants.{Closed}
-use Rattle.manager.specs.Models.{Model, model}
+use Rattle.card.specs.Admitting.{is_terminated}
+use Rattle.card.specs.declared.channel.Channel.TheVariants.{Closed}
+use Rattle.card.specs.Models.{Model, model}
 use Rattle.challenge.specs.Draws.{Challenges}
 use Rattle.cipher.specs.Blocks.{Algorithm}
 use Rattle.contents.specs.declared.records.KeySet.{KeySet}
@@ -63,7 +63,7 @@ pub record Channelled (cipher : Algorithm) (m n : Model) (talk : Talk) (said : S
   pub sendings : List Sending
   pub opened : said.served ≡ Some sendings
   pub sent : map (λ (s : Sending). s.0) sendings ≡ sent_of talk.level (bare_in talk.commands.now)
-  pub serves : Serves cipher talk.set.kek m.contents sendings n.contents
+  pub serves : Serves cipher talk.set.keys.kek m.contents sendings n.contents
 
 -- so it is for a terminal that has a set of the card's, unless the card is TERMINATED or spent
 abbrev pub Conversed : Algorithm → Model → Model → Side → Talk → Said → Type 0
@@ -94,7 +94,7 @@ unmade_of (Err e) = Some e
 
 abbrev pub refused_for : Result Held Refusal → KeySet → Option Refusal
 refused_for (Err e) k = Some e
-refused_for (Ok h) k = unmade_of (made_of k.version k.enc k.mac k.kek)
+refused_for (Ok h) k = unmade_of (made_of k.version k.keys.enc k.keys.mac k.keys.kek)
 
 abbrev pub refusal : List ℕ → KeySet → Option Refusal
 refusal image k = refused_for (read_image image) k

@@ -5,9 +5,9 @@ use Rattle.answers.specs.declared.Refusal.{Refusal}
 use Rattle.answers.specs.declared.StatusWord.TheVariants.{Success}
 use Rattle.answers.specs.Numbers.{status_bytes}
 use Rattle.answers.specs.Replies.{reply_bytes}
-use Rattle.manager.specs.Admitting.{is_terminated}
-use Rattle.manager.specs.declared.channel.Channel.TheVariants.{Open}
-use Rattle.manager.specs.Models.{Model, model}
+use Rattle.card.specs.Admitting.{is_terminated}
+use Rattle.card.specs.declared.channel.Channel.TheVariants.{Open}
+use Rattle.card.specs.Models.{Model, model}
 use Rattle.challenge.specs.Draws.{Challenges}
 use Rattle.cipher.specs.Blocks.{Algorithm}
 use Rattle.contents.specs.declared.records.KeySet.{KeySet}

@@ -3,13 +3,13 @@
 use Rattle.std.specs.Prelude.{ℕ, Bool, cond, ◌&&◌, List, [], ◌∷◌, ◌++◌, take, drop, Some, None, Ok, Err, fold, Option, Result}
 use Rattle.std.specs.Str.{bytes_eq}
 use Rattle.answers.specs.declared.StatusWord.{StatusWord}
-use Rattle.apdu.specs.declared.known.Instruction.{Instruction}
-use Rattle.apdu.specs.declared.known.Instruction.TheVariants.{Select, InitializeUpdate, ExternalAuthenticate, Manage}
+use Rattle.apdu.specs.declared.Instruction.{Instruction}
+use Rattle.apdu.specs.declared.Instruction.TheVariants.{Select, InitializeUpdate, ExternalAuthenticate, Manage}
 use Rattle.apdu.specs.declared.Management.{Management}
-use Rattle.apdu.specs.Apdu.{Apdu, apdu, changing}
-use Rattle.manager.specs.Admitting.{admitted, is_terminated}
-use Rattle.manager.specs.Channels.{granted_level, plain_allowed}
-use Rattle.manager.specs.Opening.{keys_of}
+use Rattle.apdu.specs.Apdu.{Apdu, apdu, changing, management_of}
+use Rattle.card.specs.Admitting.{admitted, is_terminated}
+use Rattle.card.specs.Channels.{granted_level, plain_allowed}
+use Rattle.card.specs.Opening.{keys_of}
 use Rattle.cipher.specs.Blocks.{Algorithm, Direction, zeros}
 use Rattle.contents.specs.declared.records.KeySet.{KeySet}
 use Rattle.contents.specs.Held.{Held}
@@ -18,7 +18,7 @@ use Rattle.rules.specs.Own.{change_of, applied}
 use Rattle.scp01.specs.declared.Level.{Level}
 use Rattle.scp01.specs.declared.Level.TheVariants.{Plain, Mac, MacEncrypted}
 use Rattle.scp01.specs.declared.Session.{Session}
-use Rattle.scp01.specs.declared.SessionKeys.{SessionKeys}
+use Rattle.cipher.specs.declared.Keys.{Keys}
 use Rattle.scp01.specs.Inside.{unwrapped}
 use Rattle.scp01.specs.Levels.{session}
 use Rattle.scp01.specs.Session.{host_cryptogram, command_code}
@@ -45,7 +45,7 @@ code_over enc key ms = fold (code_from enc key) zeros ms
 pub data Line : Type 0 where
   idle : Line
   asked : KeySet → List ℕ → List ℕ → Line
-  talking : Level → SessionKeys → List Message → Line
+  talking : Level → Keys → List Message → Line
 
 pub record PlainCard : Type 0 where
   pub contents : Held
@@ -67,12 +67,12 @@ abbrev pub first_message : Apdu → Message
 first_message c = record { instruction = 0x82; p1 = c.p1; p2 = 0x00; body = take 8 c.field }
 
 -- its cryptogram and its code are right
-abbrev pub authenticates : Algorithm → SessionKeys → List ℕ → List ℕ → Apdu → Bool
+abbrev pub authenticates : Algorithm → Keys → List ℕ → List ℕ → Apdu → Bool
 authenticates cipher keys host card c =
     bytes_eq (take 8 c.field) (host_cryptogram cipher.enc keys.enc host card)
     && bytes_eq (drop 8 c.field) (code_over cipher.enc keys.mac (first_message c ∷ []))
 
-abbrev pub opened_at : Algorithm → SessionKeys → List ℕ → List ℕ → Apdu → Option Level → Line
+abbrev pub opened_at : Algorithm → Keys → List ℕ → List ℕ → Apdu → Option Level → Line
 opened_at cipher keys host card c None = idle
 opened_at cipher keys host card c (Some level) =
     cond (authenticates cipher keys host card c) (talking level keys (first_message c ∷ [])) idle
@@ -89,19 +89,19 @@ found_right Mac ms m = ms ++ m ∷ []
 found_right MacEncrypted ms m = ms ++ m ∷ []
 
 -- the channel as both ends have it
-abbrev pub session_of : Algorithm → Level → SessionKeys → List Message → Session
+abbrev pub session_of : Algorithm → Level → Keys → List Message → Session
 session_of cipher level keys ms = session level keys (code_over cipher.enc keys.mac ms)
 
 -- the change of a changing command answered 9000
-abbrev pub changed : Algorithm → SessionKeys → Held → Management → Apdu → List ℕ → List ℕ → Held
+abbrev pub changed : Algorithm → Keys → Held → Management → Apdu → List ℕ → List ℕ → Held
 changed cipher keys h i c body answer =
     cond (changing i && is9000 answer) (applied h (change_of cipher keys.kek i c.p1 c.p2 body)) h
 
 -- a TERMINATED card has no channel
-abbrev pub kept_talking : Held → Level → SessionKeys → List Message → PlainCard
+abbrev pub kept_talking : Held → Level → Keys → List Message → PlainCard
 kept_talking h level keys ms = plain_card h (cond (is_terminated h.state) idle (talking level keys ms))
 
-abbrev pub read_as : Algorithm → Held → Level → SessionKeys → List Message → Management → Apdu → List ℕ → Option (List ℕ × List ℕ) → PlainCard
+abbrev pub read_as : Algorithm → Held → Level → Keys → List Message → Management → Apdu → List ℕ → Option (List ℕ × List ℕ) → PlainCard
 read_as cipher h level keys ms i c answer None = plain_card h idle
 read_as cipher h level keys ms i c answer (Some read) =
     kept_talking (changed cipher keys h i c read.0 answer) level keys (found_right level ms (message c read.0))
@@ -113,7 +113,7 @@ in_channel cipher h (asked k host card) i c answer = plain_card h (asked k host 
 in_channel cipher h (talking level keys ms) i c answer =
     read_as cipher h level keys ms i c answer (unwrapped cipher (session_of cipher level keys ms) (plain_allowed h.state) c level)
 
-abbrev pub noted_as : Algorithm → PlainCard → Instruction → Apdu → List ℕ → PlainCard
+abbrev pub noted_as : Algorithm → PlainCard → Instruction Management → Apdu → List ℕ → PlainCard
 noted_as cipher p Select c answer = plain_card p.contents idle
 noted_as cipher p InitializeUpdate c answer =
     plain_card p.contents (cond (is9000 answer) (asked_for (chosen_set c.p1 p.contents.sets) c.field answer) idle)
@@ -121,13 +121,13 @@ noted_as cipher p ExternalAuthenticate c answer =
     plain_card p.contents (cond (is9000 answer) (opened_by cipher p.contents p.line c) idle)
 noted_as cipher p (Manage i) c answer = in_channel cipher p.contents p.line i c answer
 
-abbrev pub noted_if : Algorithm → PlainCard → Result Instruction StatusWord → Apdu → List ℕ → PlainCard
+abbrev pub noted_if : Algorithm → PlainCard → Result (Instruction Management) StatusWord → Apdu → List ℕ → PlainCard
 noted_if cipher p (Err status) c answer = p
 noted_if cipher p (Ok i) c answer = noted_as cipher p i c answer
 
 abbrev pub noted : Algorithm → PlainCard → Option Apdu → List ℕ → PlainCard
 noted cipher p None answer = p
-noted cipher p (Some c) answer = noted_if cipher p (admitted p.contents.state c) c answer
+noted cipher p (Some c) answer = noted_if cipher p (admitted management_of p.contents.state c) c answer
 
 abbrev pub observe : Algorithm → PlainCard → Event → PlainCard
 observe cipher p reset = plain_card p.contents idle

@@ -1,20 +1,22 @@
 -- A card's run: from a model, through events, to a model.
 use Rattle.std.specs.Prelude.{◌≡◌, List, [], ◌∷◌, ◌++◌}
 use Rattle.answers.specs.Replies.{reply_bytes}
-use Rattle.manager.specs.Models.{Model, Fit, after_reset}
-use Rattle.manager.specs.Taking.{responded}
+use Rattle.card.specs.Models.{Model, Fit, after_reset}
+use Rattle.card.specs.Taking.{responded}
 use Rattle.cipher.specs.Blocks.{Algorithm}
 use Rattle.runs.specs.Events.{Event, reset, answered}
+use Rattle.apdu.specs.Apdu.{management_of}
+use Rattle.rules.specs.Own.{own_rule}
 
 -- the model of a card after an event
 abbrev pub after : Algorithm → Model → Event → Model
 after cipher m reset = after_reset m
-after cipher m (answered cmd answer) = (responded cipher m cmd).0
+after cipher m (answered cmd answer) = (responded management_of own_rule cipher m cmd).0
 
 -- the event is one that this card gives
 abbrev pub Gives : Algorithm → Model → Event → Type 0
 Gives cipher m reset = Unit {0}
-Gives cipher m (answered cmd answer) = answer ≡ reply_bytes (responded cipher m cmd).1
+Gives cipher m (answered cmd answer) = answer ≡ reply_bytes (responded management_of own_rule cipher m cmd).1
 
 -- from m the card went through the events, in order, and came to the last model
 pub data Ran (cipher : Algorithm) (m : Model) : List Event → Model → Type 0 where

@@ -4,14 +4,14 @@ use Rattle.std.specs.Borrow.{Bor}
 use Rattle.answers.specs.declared.Refusal.{Refusal}
 use Rattle.answers.specs.Replies.{reply_bytes}
 use Rattle.apdu.specs.Apdu.{Apdu, apdu, management_of}
-use Rattle.manager.specs.Admitting.{is_terminated}
-use Rattle.manager.specs.declared.channel.Channel.TheVariants.{Open}
-use Rattle.manager.specs.Models.{Model}
-use Rattle.manager.specs.Taking.{responded}
+use Rattle.card.specs.Admitting.{is_terminated}
+use Rattle.card.specs.declared.channel.Channel.TheVariants.{Open}
+use Rattle.card.specs.Models.{Model}
+use Rattle.card.specs.Taking.{responded}
 use Rattle.cipher.specs.Blocks.{Algorithm}
 use Rattle.contents.specs.Held.{Held}
 use Rattle.scp01.specs.declared.Level.{Level}
-use Rattle.scp01.specs.declared.SessionKeys.{SessionKeys}
+use Rattle.cipher.specs.declared.Keys.{Keys}
 use Rattle.scp01.specs.Levels.{session}
 use Rattle.scp01.specs.Understanding.{Keyed}
 use Rattle.scp01.specs.Wrapping.{wrappable}
@@ -22,6 +22,7 @@ use Rattle.runs.specs.Conversing.{blank}
 use Rattle.runs.specs.Laws.{is_plain}
 use Rattle.runs.specs.Events.{Event, answered}
 use Rattle.runs.specs.Serving.{Sending, Serves}
+use Rattle.rules.specs.Own.{own_rule}
 
 -- some commands as lists of bytes
 abbrev pub bare_in : List (Bor (List ℕ)) → List (List ℕ)
@@ -49,7 +50,7 @@ sent_of level [] = []
 sent_of level (command ∷ commands) = cond (sendable level command) (command ∷ sent_of level commands) (sent_of level commands)
 
 -- both ends have the same session, at this level and with these keys; a TERMINATED card has none
-pub record Shares (level : Level) (keys : SessionKeys) (m : Model) (t : Side) : Type 0 where
+pub record Shares (level : Level) (keys : Keys) (m : Model) (t : Side) : Type 0 where
   pub chain : List ℕ
   pub keyed : Keyed (session level keys chain)
   pub terminal : t.phase ≡ phase.Open (session level keys chain)
@@ -61,7 +62,7 @@ pub record Shares (level : Level) (keys : SessionKeys) (m : Model) (t : Side) : 
 abbrev pub SentAs : Algorithm → Model → Model → List ℕ → Result ℕ Refusal → List ℕ → Option Sending → Type 0
 SentAs cipher m n command (Err e) area noted = (noted ≡ None) × (n ≡ m)
 SentAs cipher m n command (Ok k) area noted =
-    (noted ≡ Some (command, take k area, reply_bytes (responded cipher m (take k area)).1)) × (n ≡ (responded cipher m (take k area)).0)
+    (noted ≡ Some (command, take k area, reply_bytes (responded management_of own_rule cipher m (take k area)).1)) × (n ≡ (responded management_of own_rule cipher m (take k area)).0)
 
 abbrev pub SentBy : Algorithm → Model → Model → List ℕ → Outcome → Option Sending → Type 0
 SentBy cipher m n command o noted = SentAs cipher m n command o.0 o.2 noted
@@ -71,7 +72,7 @@ pub record Sent (cipher : Algorithm) (m n : Model) (t u : Side) (command : List 
   pub card : SentBy cipher m n command (wraps cipher t command blank) noted
 
 -- All of them: those that can be sent were sent, each was answered by its rule, and both ends still share their session.
-pub record Answered (cipher : Algorithm) (level : Level) (keys : SessionKeys) (start : Held) (m : Model) (t : Side) (commands : List (List ℕ)) (sendings : List Sending) : Type 0 where
+pub record Answered (cipher : Algorithm) (level : Level) (keys : Keys) (start : Held) (m : Model) (t : Side) (commands : List (List ℕ)) (sendings : List Sending) : Type 0 where
   pub shares : Shares level keys m t
   pub serves : Serves cipher keys.kek start sendings m.contents
   pub sent : map (λ (s : Sending). s.0) sendings ≡ sent_of level commands
@@ -79,4 +80,4 @@ pub record Answered (cipher : Algorithm) (level : Level) (keys : SessionKeys) (s
 -- so it is wherever both ends shared a session with codes
 abbrev pub Answers : Algorithm → Model → Side → Model → Side → List (List ℕ) → List Sending → Type 0
 Answers cipher m t n u commands sendings =
-    (level : Level) (keys : SessionKeys) → is_plain level ≡ false → Shares level keys m t → Answered cipher level keys m.contents n u commands sendings
+    (level : Level) (keys : Keys) → is_plain level ≡ false → Shares level keys m t → Answered cipher level keys m.contents n u commands sendings

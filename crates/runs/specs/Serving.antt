@@ -6,12 +6,12 @@ use Rattle.answers.specs.Numbers.{status_bytes}
 use Rattle.answers.specs.Replies.{Reply, reply, reply_bytes}
 use Rattle.apdu.specs.declared.Management.{Management}
 use Rattle.apdu.specs.Apdu.{Apdu, apdu, management_of}
-use Rattle.manager.specs.Admitting.{is_terminated}
-use Rattle.manager.specs.declared.channel.Channel.TheVariants.{Waiting}
-use Rattle.manager.specs.Channels.{handshake}
-use Rattle.manager.specs.Models.{Model, model}
-use Rattle.manager.specs.Opening.{keys_of}
-use Rattle.manager.specs.Replies.{update_data}
+use Rattle.card.specs.Admitting.{is_terminated}
+use Rattle.card.specs.declared.channel.Channel.TheVariants.{Waiting}
+use Rattle.card.specs.Channels.{handshake}
+use Rattle.card.specs.Models.{Model, model}
+use Rattle.card.specs.Opening.{keys_of}
+use Rattle.card.specs.Replies.{update_data}
 use Rattle.challenge.specs.Draws.{Challenges}
 use Rattle.cipher.specs.Blocks.{Algorithm, zeros}
 use Rattle.contents.specs.declared.records.KeySet.{KeySet}
@@ -27,9 +27,9 @@ use Rattle.runs.specs.Events.{Event, reset, answered, is9000}
 -- the terminal has this key set: its version and its three keys
 pub record HasSet (t : Side) (k : KeySet) : Type 0 where
   pub version : t.version ≡ k.version
-  pub enc : t.enc ≡ k.enc
-  pub mac : t.mac ≡ k.mac
-  pub kek : t.kek ≡ k.kek
+  pub enc : t.keys.enc ≡ k.keys.enc
+  pub mac : t.keys.mac ≡ k.keys.mac
+  pub kek : t.keys.kek ≡ k.keys.kek
 
 -- Opening a channel with a key set, a host challenge and a card challenge.
 

@@ -1,6 +1,6 @@
 -- What is promised of every run of a card.
 use Rattle.std.specs.Prelude.{◌≡◌, List, map}
-use Rattle.manager.specs.Models.{Model}
+use Rattle.card.specs.Models.{Model}
 use Rattle.cipher.specs.Blocks.{Algorithm}
 use Rattle.contents.specs.Held.{Held}
 use Rattle.runs.specs.Events.{Event, Input, input_of}

@@ -1,8 +1,8 @@
 -- Turns and exchanges as lists of bytes, and what one turn does.
 use Rattle.std.specs.Prelude.{◌≡◌, ℕ, ◌-◌, ◌≤◌, List, map, length, take, vec_items}
 use Rattle.answers.specs.Replies.{reply_bytes}
-use Rattle.manager.specs.Models.{Model, Fit}
-use Rattle.manager.specs.Taking.{responded}
+use Rattle.card.specs.Models.{Model, Fit}
+use Rattle.card.specs.Taking.{responded}
 use Rattle.cipher.specs.Blocks.{Algorithm}
 use Rattle.runs.specs.declared.turns.Turn.{Turn}
 use Rattle.runs.specs.declared.turns.Turn.TheVariants as turn
@@ -11,6 +11,8 @@ use Rattle.runs.specs.declared.turns.Outcome.{Outcome}
 use Rattle.runs.specs.declared.turns.Outcome.TheVariants as outcome
 use Rattle.runs.specs.Events.{Event, reset, answered, Input, restart, command, input_of}
 use Rattle.runs.specs.Runs.{after, Gives, Ran}
+use Rattle.apdu.specs.Apdu.{management_of}
+use Rattle.rules.specs.Own.{own_rule}
 
 abbrev pub input_in : Turn → Input
 input_in turn.Reset = restart
@@ -32,15 +34,15 @@ event_in (outcome.Answered x) = event_of (exchanged x)
 
 -- with room enough, the answer stands at the front of the area
 pub record Handed (cipher : Algorithm) (m n : Model) (cmd area : List ℕ) (k : ℕ) : Type 0 where
-  pub answer : take (k - 0) area ≡ reply_bytes (responded cipher m cmd).1
+  pub answer : take (k - 0) area ≡ reply_bytes (responded management_of own_rule cipher m cmd).1
   pub within : k ≤ length area
-  pub model : n ≡ (responded cipher m cmd).0
+  pub model : n ≡ (responded management_of own_rule cipher m cmd).0
 
 -- a command was handed in: the exchange has it with the card's answer, and the card is what it leaves
 pub record HandedIn (cipher : Algorithm) (m n : Model) (cmd : List ℕ) (x : Pair) : Type 0 where
   pub command : x.0 ≡ cmd
-  pub answer : x.1 ≡ reply_bytes (responded cipher m cmd).1
-  pub model : n ≡ (responded cipher m cmd).0
+  pub answer : x.1 ≡ reply_bytes (responded management_of own_rule cipher m cmd).1
+  pub model : n ≡ (responded management_of own_rule cipher m cmd).0
   pub fit : Fit n
 
 -- one turn: the event has what was handed in, is one that this card gives, and the card is what it leaves

@@ -1,8 +1,8 @@
 // Conducting a card: one is made of an image, turns are handed in, and then a terminal has a channel with it.
 ghost use Rattle.std.specs.Prelude.{◌≡◌, true, map, is_some, IfOk, MatchResult};
-ghost use Rattle.manager.specs.Cards.{view};
-ghost use Rattle.cipher.specs.Blocks.{algorithm};
+ghost use Rattle.card.specs.Cards.{view};
 ghost use Rattle.terminal.specs.Sides.{side};
+ghost use Rattle.runs.specs.declared.conduct.Trouble.TheVariants.{Refused};
 ghost use Rattle.runs.specs.Conducting.{trouble_number, said_in, said_events, Conversed, Conducted, Troubled};
 ghost use Rattle.runs.specs.Conversing.{is_answered};
 ghost use Rattle.runs.specs.Runs.{Onward};
@@ -14,11 +14,12 @@ use crate::play::play;
 use crate::serve::serve;
 use crate::turns::{Outcome, Served, Turn};
 use answers::Refusal;
+use apdu::Management;
+use card::card::Card;
+use card::card::make::Unmade;
 use challenge::Source;
 use cipher::Cipher;
 use contents::records::KeySet;
-use manager::card::Card;
-use manager::card::make::Unmade;
 use scp01::Level;
 use std::alloc::{AllocError, Global};
 use terminal::Terminal;
@@ -42,7 +43,7 @@ pub struct Conversation {
 // The card, what came of the turns, and its conversation with the terminal.
 #[derive(Drop)]
 pub struct Report<C, S> {
-    pub card: Card<C, S>,
+    pub card: Card<C, S, Management>,
     pub turns: Vec<Outcome>,
     pub conversation: Conversation,
 }
@@ -54,13 +55,13 @@ pub enum Trouble {
     Refused(Refusal),
 }
 
-impl Trouble {
-    pub fn number(self) -> u8
-        ensures { result ≡ trouble_number self }
-    {
-        match self {
+impl From<Trouble> for u8 {
+    ghost from_gives = { λ trouble number. number ≡ trouble_number trouble };
+
+    fn from(trouble: Trouble) -> u8 {
+        match trouble {
             Trouble::OutOfMemory => 0,
-            Trouble::Refused(refusal) => refusal.number(),
+            Trouble::Refused(refusal) => refusal.into(),
         }
     }
 }
@@ -72,16 +73,28 @@ pub struct Failure<S> {
     pub source: S,
 }
 
+impl<S> From<Unmade<S>> for Failure<S> {
+    ghost from_gives = { λ unmade failure. (failure.trouble ≡ Refused unmade.refusal) × (failure.source ≡ unmade.source) };
+
+    fn from(unmade: Unmade<S>) -> Failure<S> {
+        let Unmade { refusal, source } = unmade;
+        Failure {
+            trouble: Trouble::Refused(refusal),
+            source,
+        }
+    }
+}
+
 // Opens a channel and, where it is open, sends the bare commands.
 fn converse<C: Cipher, S: Source>(
     heap: Global,
-    card: &mut Card<C, S>,
+    card: &mut Card<C, S, Management>,
     terminal: &mut Terminal<C>,
     talk: &Talk,
 ) -> Result<Conversation, AllocError>
-    ensures conversed { IfOk result (λ c. Conversed (algorithm C.Cipher.enc C.Cipher.dec C.Cipher.identifier) (view S.Source.coming card.old) (view S.Source.coming card.new) (side terminal.old) talk.now (said_in c)) }
+    ensures conversed { IfOk result (λ c. Conversed C.algorithm (view S.Source.coming card.old) (view S.Source.coming card.new) (side terminal.old) talk.now (said_in c)) }
     ensures channelled { IfOk result (λ c. is_some (said_in c).served ≡ is_answered (said_in c).opening.1) }
-    ensures onward { IfOk result (λ c. Onward (algorithm C.Cipher.enc C.Cipher.dec C.Cipher.identifier) (view S.Source.coming card.old) (said_events (said_in c)) (view S.Source.coming card.new)) }
+    ensures onward { IfOk result (λ c. Onward C.algorithm (view S.Source.coming card.old) (said_events (said_in c)) (view S.Source.coming card.new)) }
     ensures whole { S.Source.whole card.new.source ≡ S.Source.whole card.old.source }
 {
     let opening = open_channel(heap, card, terminal, &talk.set, &talk.host, talk.level)?;
@@ -107,20 +120,13 @@ pub fn conduct<C: Cipher, S: Source>(
     turns: &[Turn],
     talk: &Talk,
 ) -> Result<Report<C, S>, Failure<S>>
-    ensures conducted { MatchResult result (λ report. Conducted (algorithm C.Cipher.enc C.Cipher.dec C.Cipher.identifier) image.now (S.Source.coming source) (view S.Source.coming report.card) (map input_in turns.now) talk.now (map event_in report.turns.items) (said_in report.conversation)) (λ f. Troubled image.now talk.now.set source f.source f.trouble) }
+    ensures conducted { MatchResult result (λ report. Conducted C.algorithm image.now (S.Source.coming source) (view S.Source.coming report.card) (map input_in turns.now) talk.now (map event_in report.turns.items) (said_in report.conversation)) (λ f. Troubled image.now talk.now.set source f.source f.trouble) }
     ensures whole { MatchResult result (λ report. S.Source.whole report.card.source ≡ S.Source.whole source) (λ f. S.Source.whole f.source ≡ S.Source.whole source) }
 {
-    let mut card = match Card::<C, S>::make(image, source) {
-        Ok(card) => card,
-        Err(Unmade { refusal, source }) => {
-            return Err(Failure {
-                trouble: Trouble::Refused(refusal),
-                source,
-            });
-        }
-    };
+    let mut card = Card::<C, S, Management>::make(image, source)?;
     let set = &talk.set;
-    let mut terminal = match Terminal::<C>::make(set.version, &set.enc, &set.mac, &set.kek) {
+    let keys = &set.keys;
+    let mut terminal = match Terminal::<C>::make(set.version, &keys.enc, &keys.mac, &keys.kek) {
         Ok(terminal) => terminal,
         Err(refusal) => {
             return Err(Failure {

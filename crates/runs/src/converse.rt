@@ -1,9 +1,8 @@
 // A terminal's side of a channel with a card: handing in what it writes, and opening the channel.
 ghost use Rattle.std.specs.Prelude.{◌≡◌, length, IfOk};
 ghost use Rattle.std.specs.Option.{option_map};
-ghost use Rattle.std.specs.Str.{bytes_eq};
-ghost use Rattle.manager.specs.Cards.{view};
-ghost use Rattle.cipher.specs.Blocks.{algorithm, Bytes};
+ghost use Rattle.card.specs.Cards.{view};
+ghost use Rattle.cipher.specs.Blocks.{Bytes};
 ghost use Rattle.terminal.specs.Sides.{side};
 ghost use Rattle.runs.specs.Conversing.{Began, Carried, Opens, is_answered, opening_events, opening_in, showing};
 ghost use Rattle.runs.specs.Events.{is9000};
@@ -12,10 +11,11 @@ ghost use Rattle.runs.specs.Turns.{exchanged};
 
 use crate::play::hand_in;
 use crate::turns::Exchange;
+use apdu::Management;
+use card::card::Card;
 use challenge::Source;
 use cipher::Cipher;
 use contents::records::KeySet;
-use manager::card::Card;
 use scp01::Level;
 use std::alloc::{AllocError, Global};
 use terminal::Terminal;
@@ -34,22 +34,11 @@ pub(crate) fn of_bytes(bytes: &[u8])
     let _first = bytes.first();
 }
 
-fn same_bytes(a: &[u8], b: &[u8]) -> bool
-    ensures { result ≡ bytes_eq a.now b.now }
-{
-    a == b
-}
-
 // Whether an answer ends with 9000.
 fn is_success(answer: &[u8]) -> bool
     ensures { result ≡ is9000 answer.now }
 {
-    let at = if answer.len() < 2 {
-        0
-    } else {
-        answer.len() - 2
-    };
-    same_bytes(&answer[at..], &[0x90, 0x00])
+    answer[answer.len().saturating_sub(2)..] == [0x90, 0x00]
 }
 
 impl Opening {
@@ -57,21 +46,20 @@ impl Opening {
     pub fn is_open(&self) -> bool
         ensures { result ≡ is_answered (opening_in self.now).1 }
     {
-        match &self.authenticate {
-            Some(exchange) => is_success(&exchange.answer),
-            None => false,
-        }
+        self.authenticate
+            .as_ref()
+            .is_some_and(|exchange| is_success(&exchange.answer))
     }
 }
 
 // INITIALIZE UPDATE with a host challenge.
 fn begin<C: Cipher, S: Source>(
     heap: Global,
-    card: &mut Card<C, S>,
+    card: &mut Card<C, S, Management>,
     terminal: &mut Terminal<C>,
     host: &[u8; 8],
 ) -> Result<Exchange, AllocError>
-    ensures began { IfOk result (λ x. Began (algorithm C.Cipher.enc C.Cipher.dec C.Cipher.identifier) (view S.Source.coming card.old) (view S.Source.coming card.new) (side terminal.old) (side terminal.new) host.now (exchanged x)) }
+    ensures began { IfOk result (λ x. Began C.algorithm (view S.Source.coming card.old) (view S.Source.coming card.new) (side terminal.old) (side terminal.new) host.now (exchanged x)) }
     ensures whole { S.Source.whole card.new.source ≡ S.Source.whole card.old.source }
 {
     let mut area = [0; 261];
@@ -85,17 +73,17 @@ fn begin<C: Cipher, S: Source>(
 // that answer.
 fn authenticate<C: Cipher, S: Source>(
     heap: Global,
-    card: &mut Card<C, S>,
+    card: &mut Card<C, S, Management>,
     terminal: &mut Terminal<C>,
     answer: &[u8],
     level: Level,
 ) -> Result<Option<Exchange>, AllocError>
-    ensures carried { IfOk result (λ o. Carried (algorithm C.Cipher.enc C.Cipher.dec C.Cipher.identifier) (view S.Source.coming card.old) (view S.Source.coming card.new) (showing (algorithm C.Cipher.enc C.Cipher.dec C.Cipher.identifier) (side terminal.old) answer.now level) (option_map exchanged o)) }
-    ensures terminal { (side terminal.new) ≡ (showing (algorithm C.Cipher.enc C.Cipher.dec C.Cipher.identifier) (side terminal.old) answer.now level).1 }
+    ensures carried { IfOk result (λ o. Carried C.algorithm (view S.Source.coming card.old) (view S.Source.coming card.new) (showing C.algorithm (side terminal.old) answer.now level) (option_map exchanged o)) }
+    ensures terminal { (side terminal.new) ≡ (showing C.algorithm (side terminal.old) answer.now level).1 }
     ensures whole { S.Source.whole card.new.source ≡ S.Source.whole card.old.source }
 {
     let mut area = [0; 261];
-    let Ok(n) = terminal.authenticate(answer, level.value(), &mut area) else {
+    let Ok(n) = terminal.authenticate(answer, u8::from(level), &mut area) else {
         return Ok(None);
     };
     let exchange = hand_in(heap, card, &area[0..n])?;
@@ -106,18 +94,18 @@ fn authenticate<C: Cipher, S: Source>(
 // its source is not spent.
 pub(crate) fn open_channel<C: Cipher, S: Source>(
     heap: Global,
-    card: &mut Card<C, S>,
+    card: &mut Card<C, S, Management>,
     terminal: &mut Terminal<C>,
     set: &KeySet,
     host: &[u8; 8],
     level: Level,
 ) -> Result<Opening, AllocError>
-    ensures opened { IfOk result (λ o. Opens (algorithm C.Cipher.enc C.Cipher.dec C.Cipher.identifier) (view S.Source.coming card.old) (view S.Source.coming card.new) (side terminal.old) (side terminal.new) set.now host.now level (opening_in o)) }
-    ensures onward { IfOk result (λ o. Onward (algorithm C.Cipher.enc C.Cipher.dec C.Cipher.identifier) (view S.Source.coming card.old) (opening_events (opening_in o)) (view S.Source.coming card.new)) }
+    ensures opened { IfOk result (λ o. Opens C.algorithm (view S.Source.coming card.old) (view S.Source.coming card.new) (side terminal.old) (side terminal.new) set.now host.now level (opening_in o)) }
+    ensures onward { IfOk result (λ o. Onward C.algorithm (view S.Source.coming card.old) (opening_events (opening_in o)) (view S.Source.coming card.new)) }
     ensures whole { S.Source.whole card.new.source ≡ S.Source.whole card.old.source }
 {
-    of_bytes(&set.enc);
-    of_bytes(&set.mac);
+    of_bytes(&set.keys.enc);
+    of_bytes(&set.keys.mac);
     of_bytes(host);
     let update = begin(heap, card, terminal, host)?;
     of_bytes(&update.answer);

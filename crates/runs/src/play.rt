@@ -1,19 +1,23 @@
 // Handing in turns, one by one.
 ghost use Rattle.std.specs.Prelude.{◌≡◌, map, IfOk};
-ghost use Rattle.manager.specs.Cards.{view};
-ghost use Rattle.manager.specs.Models.{Fit};
-ghost use Rattle.cipher.specs.Blocks.{algorithm};
+ghost use Rattle.card.specs.Cards.{view};
+ghost use Rattle.card.specs.Models.{Fit};
 ghost use Rattle.runs.specs.Turns.{input_in, event_in, exchanged, Handed, HandedIn, Turned, Played};
 
 use crate::turns::{Exchange, Outcome, Turn};
+use apdu::Management;
+use card::card::Card;
 use challenge::Source;
 use cipher::Cipher;
-use manager::card::Card;
 use std::alloc::{AllocError, Global};
 
 // Hands in a command, with a work area of its own; the answer stands at the front of a lent area, and its length is returned.
-fn ask<C: Cipher, S: Source>(card: &mut Card<C, S>, bytes: &[u8], answer: &mut [u8; 258]) -> usize
-    ensures handed { Handed (algorithm C.Cipher.enc C.Cipher.dec C.Cipher.identifier) (view S.Source.coming card.old) (view S.Source.coming card.new) bytes.now answer.new result }
+fn ask<C: Cipher, S: Source>(
+    card: &mut Card<C, S, Management>,
+    bytes: &[u8],
+    answer: &mut [u8; 258],
+) -> usize
+    ensures handed { Handed C.algorithm (view S.Source.coming card.old) (view S.Source.coming card.new) bytes.now answer.new result }
     ensures fit { Fit (view S.Source.coming card.new) }
     ensures whole { S.Source.whole card.new.source ≡ S.Source.whole card.old.source }
 {
@@ -27,10 +31,10 @@ fn ask<C: Cipher, S: Source>(card: &mut Card<C, S>, bytes: &[u8], answer: &mut [
 // Hands in a command, with areas of its own.
 pub(crate) fn hand_in<C: Cipher, S: Source>(
     heap: Global,
-    card: &mut Card<C, S>,
+    card: &mut Card<C, S, Management>,
     bytes: &[u8],
 ) -> Result<Exchange, AllocError>
-    ensures handed { IfOk result (λ x. HandedIn (algorithm C.Cipher.enc C.Cipher.dec C.Cipher.identifier) (view S.Source.coming card.old) (view S.Source.coming card.new) bytes.now (exchanged x)) }
+    ensures handed { IfOk result (λ x. HandedIn C.algorithm (view S.Source.coming card.old) (view S.Source.coming card.new) bytes.now (exchanged x)) }
     ensures whole { S.Source.whole card.new.source ≡ S.Source.whole card.old.source }
 {
     let command = Vec::from_slice(heap, bytes)?;
@@ -42,10 +46,10 @@ pub(crate) fn hand_in<C: Cipher, S: Source>(
 
 fn take_turn<C: Cipher, S: Source>(
     heap: Global,
-    card: &mut Card<C, S>,
+    card: &mut Card<C, S, Management>,
     turn: &Turn,
 ) -> Result<Outcome, AllocError>
-    ensures turned { IfOk result (λ e. Turned (algorithm C.Cipher.enc C.Cipher.dec C.Cipher.identifier) (view S.Source.coming card.old) (view S.Source.coming card.new) (input_in turn.now) (event_in e)) }
+    ensures turned { IfOk result (λ e. Turned C.algorithm (view S.Source.coming card.old) (view S.Source.coming card.new) (input_in turn.now) (event_in e)) }
     ensures whole { S.Source.whole card.new.source ≡ S.Source.whole card.old.source }
 {
     match turn {
@@ -63,10 +67,10 @@ fn take_turn<C: Cipher, S: Source>(
 // Hands in all turns, in order.
 pub(crate) fn play<C: Cipher, S: Source>(
     heap: Global,
-    card: &mut Card<C, S>,
+    card: &mut Card<C, S, Management>,
     turns: &[Turn],
 ) -> Result<Vec<Outcome>, AllocError>
-    ensures played { IfOk result (λ v. Played (algorithm C.Cipher.enc C.Cipher.dec C.Cipher.identifier) (view S.Source.coming card.old) (view S.Source.coming card.new) (map input_in turns.now) (map event_in v.items)) }
+    ensures played { IfOk result (λ v. Played C.algorithm (view S.Source.coming card.old) (view S.Source.coming card.new) (map input_in turns.now) (map event_in v.items)) }
     ensures whole { S.Source.whole card.new.source ≡ S.Source.whole card.old.source }
 {
     let mut outcomes = Vec::new(heap);

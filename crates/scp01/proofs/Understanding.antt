@@ -1,10 +1,9 @@
 -- What a terminal wraps, a card unwraps. Assumes what is asked of a cipher.
-use Rattle.std.proofs.Common.{◌≡◌, ℕ, zero, suc, ◌+◌, ◌-◌, ◌*◌, ◌/◌, ◌%◌, ◌<◌, ◌≤◌, Bool, true, false, cond, eqb, ltb, leb, List, [], ◌∷◌, ◌++◌, length, get_or, take, drop, replicate, Some, None, Option, sym, refl, ap, ◌∙◌, subst, arith, length-append}
+use Rattle.std.proofs.Common.{◌≡◌, ℕ, zero, suc, ◌+◌, ◌-◌, ◌*◌, ◌/◌, ◌%◌, ◌<◌, ◌≤◌, Bool, true, false, cond, eqb, leb, List, [], ◌∷◌, ◌++◌, length, get_or, replicate, Some, None, sym, refl, ap, ◌∙◌, arith, length-append}
 use Rattle.std.specs.Str.{bytes_eq}
 use Rattle.std.proofs.lemmas.Slice.Eq.{bytes_eq-Decides}
 use Rattle.std.proofs.lemmas.List.{take_at, drop_at}
 use Rattle.std.proofs.lemmas.Bool.{le-leb, le-ltb, leb-true, eq-eqb, and_parts}
-use Rattle.answers.specs.Areas.{fronted}
 use Rattle.apdu.specs.Apdu.{Apdu, apdu}
 use Rattle.cipher.specs.Blocks.{Algorithm, Direction, Bytes, Undoes, zeros}
 use Rattle.cipher.specs.Cbc.{cbc_deciphered}
@@ -16,8 +15,8 @@ use Rattle.scp01.specs.declared.Level.TheVariants.{Plain, Mac, MacEncrypted}
 use Rattle.scp01.specs.declared.Session.{Session}
 use Rattle.scp01.specs.Inside.{closing, body_text, said, body_of, before_code, code_in, text_in, body_in, right_code, chain_after, takes_class, unwrapped}
 use Rattle.scp01.specs.Session.{coded}
-use Rattle.scp01.specs.Wrapping.{longest_body, enciphered, code_of, sealed_with, sent_at, chain_sent, wrappable, wrapped, into_area, wrapped_into}
-use Rattle.scp01.specs.Understanding.{SameHeader, Understood, UnderstoodIn, Keyed, Bytewise, Unwraps}
+use Rattle.scp01.specs.Wrapping.{longest_body, enciphered, code_of, sealed_with, sent_at, chain_sent, wrappable}
+use Rattle.scp01.specs.Understanding.{SameHeader, Keyed, Bytewise, Unwraps}
 use Rattle.scp01.proofs.Reading.{read_back}
 use Rattle.scp01.proofs.Sending.{length_text}
 
@@ -168,38 +167,3 @@ unwraps cipher laws s c w k b e =
       header = same_header cipher s c s.level;
       body = unwrapped_at cipher laws s c k b s.level parts.0 few ∙ ap (λ v. Some (c.field, v.1)) p.1;
     }
-
--- a call that answered something wrote what it was to write
-record Wrote (after : List ℕ) (x : Option (List ℕ × List ℕ)) (w : ℕ × List ℕ) : Type 0 where
-  sent : List ℕ × List ℕ
-  made : x ≡ Some sent
-  front : take w.0 after ≡ sent.0
-  chain : w.1 ≡ sent.1
-
-some_first : {X Y : Type 0} (x y : X) (a b : Y) → ◌≡◌ {A = Option X × Y} (Some x, a) (Some y, b) → (x ≡ y) × (a ≡ b)
-some_first {X} {Y} x y a b e = let p = ap (λ (v : Option X × Y). v.0) e in let q = ap (λ (v : Option X × Y). v.1) e in (cc, q)
-
-wrote_some : (before after : List ℕ) (x : Option (List ℕ × List ℕ)) (w : ℕ × List ℕ) → (Some w, after) ≡ into_area before x → Wrote after x w
-wrote_some before after None w e = let p = ap (λ v. v.0) e in absurd (let z : ◌≡◌ {A = ℕ} 0 1 = cc in omega arith)
-wrote_some before after (Some v) w e =
-    let p = some_first w (length v.0, v.1) after (fronted before v.0) e in
-    let n = ap (λ u. u.0) p.0 in
-    record {
-      sent = v;
-      made = refl;
-      front = rw (n, p.1) (take_at v.0 (drop (length v.0) before) (length v.0) refl);
-      chain = ap (λ u. u.1) p.0;
-    }
-
-wrote : (before after : List ℕ) (x : Option (List ℕ × List ℕ)) (w : ℕ × List ℕ) → (Some w, after) ≡ wrapped_into before x → Wrote after x w
-wrote before after x w =
-    let P : Bool → Type 0 = λ short. (Some w, after) ≡ cond short (None, before) (into_area before x) → Wrote after x w in
-    elim (ltb (length before) 261) as P [ true ↦ λ e. (let p = ap (λ v. v.0) e in absurd (let z : ◌≡◌ {A = ℕ} 0 1 = cc in omega arith)) | false ↦ λ e. wrote_some before after x w e ]
-
--- what a call answers and writes is understood, too
-pub unwraps_in : (cipher : Algorithm) → Undoes cipher.enc cipher.dec → (s : Session) (c : Apdu) (before after : List ℕ) (r : Option (ℕ × List ℕ)) → Keyed s → Bytewise c → (r, after) ≡ wrapped_into before (wrapped cipher s c) → UnderstoodIn cipher s c after r
-unwraps_in cipher laws s c before after None k b e = tt
-unwraps_in cipher laws s c before after (Some w) k b e =
-    let h = wrote before after (wrapped cipher s c) w e in
-    let u = unwraps cipher laws s c h.sent k b h.made in
-    subst (λ bytes. Understood cipher s c bytes w.1) (sym h.front) (subst (Understood cipher s c h.sent.0) (sym h.chain) u)

@@ -2,7 +2,7 @@
 use Rattle.std.specs.Prelude.{ℕ, ◌+◌, List, ◌∷◌, ◌++◌, length, take, drop}
 use Rattle.cipher.specs.Blocks.{Direction, zeros}
 use Rattle.cipher.specs.Mac.{mac}
-use Rattle.scp01.specs.declared.SessionKeys.{SessionKeys}
+use Rattle.cipher.specs.declared.Keys.{Keys}
 
 -- the two derivation blocks: card challenge bytes 5 to 8 and host challenge bytes 1 to 4, then card 1 to 4 and host 5 to 8
 abbrev pub first_derivation : List ℕ → List ℕ → List ℕ
@@ -17,7 +17,7 @@ session_key enc key host card = enc key (first_derivation host card) ++ enc key 
 
 -- bodies are enciphered under a session key from the set's first key, codes come from one from its second, and the third
 -- is the key-encrypting key itself
-abbrev pub session_keys : Direction → List ℕ → List ℕ → List ℕ → List ℕ → List ℕ → SessionKeys
+abbrev pub session_keys : Direction → List ℕ → List ℕ → List ℕ → List ℕ → List ℕ → Keys
 session_keys enc first second third host card =
     record { enc = session_key enc first host card; mac = session_key enc second host card; kek = third }
 

@@ -1,21 +1,16 @@
 -- Commands inside a channel, as a terminal wraps them.
-use Rattle.std.specs.Prelude.{◌≡◌, ℕ, ◌+◌, Bool, cond, ◌&&◌, List, [], ◌∷◌, ◌++◌, length, Some, None, Option, ◌==◌, nat_le, nat_lt}
-use Rattle.answers.specs.Areas.{written, fronted}
+use Rattle.std.specs.Prelude.{◌≡◌, ℕ, Bool, cond, ◌&&◌, ◌||◌, List, [], ◌∷◌, ◌++◌, length, Some, None, Option, ◌==◌, nat_le, nat_lt}
+use Rattle.answers.specs.Areas.{fronted}
 use Rattle.apdu.specs.Apdu.{Apdu}
 use Rattle.cipher.specs.Blocks.{Algorithm, Direction, zeros}
 use Rattle.cipher.specs.Cbc.{cbc_enciphered}
 use Rattle.scp01.specs.declared.Level.{Level}
 use Rattle.scp01.specs.declared.Level.TheVariants.{Plain, Mac, MacEncrypted}
 use Rattle.scp01.specs.declared.Session.{Session}
+use Rattle.scp01.specs.declared.wrapping.Sent.{Sent}
+use Rattle.scp01.specs.declared.wrapping.Wrapped.{Wrapped}
 use Rattle.scp01.specs.Inside.{body_text}
 use Rattle.scp01.specs.Session.{command_code}
-
--- Bytes that a call writes into a lent area.
-
--- bytes stand in the area from `at` on, and nothing else changed; n is the place behind them
-pub record PutAt (before after : List ℕ) (at n : ℕ) (bytes : List ℕ) : Type 0 where
-  pub area : after ≡ written before at bytes
-  pub end : n ≡ at + length bytes
 
 -- n bytes stand at the front of the area, and nothing else changed
 pub record PutInFront (before after : List ℕ) (n : ℕ) (bytes : List ℕ) : Type 0 where
@@ -33,6 +28,13 @@ le_bytes (Some le) = le ∷ []
 
 abbrev pub command_bytes : Apdu → List ℕ
 command_bytes c = (c.class ∷ c.instruction ∷ c.p1 ∷ c.p2 ∷ []) ++ (field_bytes c.field ++ le_bytes c.le)
+
+-- what a call answers that writes them to the front of an area, and what the area then holds; none, and the area as it was,
+-- where it is shorter than the longest command, or the data field has no Lc
+abbrev pub command_into : List ℕ → Apdu → Option ℕ × List ℕ
+command_into area c =
+    cond (nat_lt (length area) 261 || nat_lt 255 (length c.field)) (None, area)
+    (Some (length (command_bytes c)), fronted area (command_bytes c))
 
 -- the longest body that a level has room for
 abbrev pub longest_body : Level → ℕ
@@ -84,8 +86,13 @@ abbrev pub into_area : List ℕ → Option (List ℕ × List ℕ) → Option (�
 into_area area None = (None, area)
 into_area area (Some w) = (Some (length w.0, w.1), fronted area w.0)
 
-abbrev pub sealed_into : List ℕ → Apdu → List ℕ → List ℕ → Option (ℕ × List ℕ) × List ℕ
-sealed_into area c body code = into_area area (Some (command_bytes (sealed_with c body code), code))
-
 abbrev pub wrapped_into : List ℕ → Option (List ℕ × List ℕ) → Option (ℕ × List ℕ) × List ℕ
 wrapped_into area w = cond (nat_lt (length area) 261) (None, area) (into_area area w)
+
+-- the bytes to send and the chaining value after them
+abbrev pub to_send : Sent → List ℕ × List ℕ
+to_send s = (s.bytes.items, s.chain)
+
+-- the length and the chaining value that a call answers
+abbrev pub length_and_chain : Wrapped → ℕ × List ℕ
+length_and_chain w = (w.length, w.chain)

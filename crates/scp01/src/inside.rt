@@ -1,17 +1,16 @@
 // Commands inside a channel, as a card reads them.
-ghost use Rattle.std.specs.Prelude.{◌≡◌, ◌<◌, ◌≤◌, true, length, IfSome, slice_index};
+ghost use Rattle.std.specs.Prelude.{◌≡◌, ◌<◌, ◌≤◌, length, IfSome};
 ghost use Rattle.std.specs.Option.{option_map};
-ghost use Rattle.std.specs.Str.{bytes_eq};
 ghost use Rattle.apdu.specs.Apdu.{meaning};
-ghost use Rattle.cipher.specs.Blocks.{algorithm};
-ghost use Rattle.scp01.specs.Inside.{closing, body_text, said, body_of, text_in, deciphered_into, body_at, code_in, right_code, chain_after, takes_class, unwrapped_from, answered, placed};
+ghost use Rattle.scp01.specs.Inside.{closing, body_text, body_of, text_in, deciphered_into, body_at, right_code, chain_after, takes_class, unwrapped_from, answered, placed};
 
-use crate::{Level, Session, command_code};
+use crate::{Level, Session};
 use apdu::Command;
+use arrayvec::ArrayVec;
 use cipher::{Cipher, cbc};
 
 // Where a body stands.
-#[derive(Clone, Copy)]
+#[derive(Clone, Copy, PartialEq, Eq, Debug)]
 pub enum Place {
     // in the command's own data field
     Command,
@@ -29,142 +28,125 @@ pub struct Unwrapped<'a> {
 
 const CLOSING: [u8; 8] = [0x80, 0, 0, 0, 0, 0, 0, 0];
 
-fn same_bytes(a: &[u8], b: &[u8]) -> bool
-    ensures { result ≡ bytes_eq a.now b.now }
-{
-    a == b
-}
-
 // What fills the last block behind this many bytes.
-pub(crate) fn closing(length: usize) -> &'static [u8]
+fn closing(length: usize) -> &'static [u8]
     ensures { result.now ≡ closing length }
 {
     &CLOSING[0..(8 - length % 8) % 8]
 }
 
-// Whether a text is that of the bytes behind its first, as many as that says.
-fn is_text(text: &[u8]) -> bool
-    requires { 0 < length text.now }
-    ensures text { result ≡ bytes_eq text.now (body_text (said text.now)) }
-    ensures long { result ≡ true → slice_index text.now 0 < length text.now }
+// The text of a body.
+pub(crate) fn body_text(body: &[u8]) -> ArrayVec<u8, 240>
+    requires { length body.now ≤ 239 }
+    ensures { result.items ≡ body_text body.now }
 {
-    let end = text[0] as usize + 1;
-    end <= text.len() && same_bytes(&text[end..], closing(end))
+    let mut text = ArrayVec::new();
+    text.push(body.len() as u8);
+    text.try_extend_from_slice(body).unwrap();
+    text.try_extend_from_slice(closing(body.len() + 1)).unwrap();
+    text
 }
 
-// The body that a text says, if the text is just that body's.
+// The body that a text says: one to 239 bytes, where the text is just theirs.
 fn body_of(text: &[u8]) -> Option<&[u8]>
     requires { 0 < length text.now }
     ensures { option_map (λ b. b.now) result ≡ body_of text.now }
 {
     let n = text[0] as usize;
-    if n < 1 || n > 239 || !is_text(text) {
+    if n < 1 || n > 239 || n >= text.len() {
         return None;
     }
-    Some(&text[1..n + 1])
+    let body = &text[1..n + 1];
+    (text == body_text(body).as_slice()).then_some(body)
 }
 
-// Deciphers what a data field holds at level 03 to the front of the work area, and returns its length; at the other levels
-// nothing is deciphered. None, and nothing written, where it is not whole blocks and a code, or the area is below 256 bytes.
-pub fn decipher_field<C: Cipher>(session: &Session, field: &[u8], work: &mut [u8]) -> Option<usize>
-    ensures text { (result, work.new) ≡ deciphered_into work.old (text_in (algorithm C.Cipher.enc C.Cipher.dec C.Cipher.identifier) session.now field.now session.now.level) }
-    ensures within { IfSome result (λ n. n ≤ length work.old) }
-{
-    if work.len() < 256 {
-        return None;
+impl Level {
+    // Whether the level takes commands of this class; `plain` says whether the card lets a channel go without codes.
+    pub fn takes_class(self, plain: bool, class: u8) -> bool
+        ensures { result ≡ takes_class plain class self }
+    {
+        match self {
+            Level::Plain => plain && class == 0x80,
+            Level::Mac | Level::MacEncrypted => class == 0x84,
+        }
     }
-    match session.level {
-        Level::Plain | Level::Mac => Some(0),
-        Level::MacEncrypted => {
-            if field.len() < 8 || field.len() > 248 {
-                return None;
+
+    // The body of a command, with its place: a part of the data field, or of the text that `decipher_field` left.
+    pub fn read_body<'a>(self, field: &'a [u8], text: &'a [u8]) -> Option<(Place, &'a [u8])>
+        ensures { option_map (λ p. (p.0, p.1.now)) result ≡ body_at field.now text.now self }
+    {
+        match self {
+            Level::Plain => Some((Place::Command, field)),
+            Level::Mac => {
+                let (body, _) = field.split_last_chunk::<8>()?;
+                Some((Place::Command, body))
             }
-            let text = &field[0..field.len() - 8];
-            cbc::decipher_blocks::<C>(&session.keys.enc, &[0; 8], text, work)
+            Level::MacEncrypted if text.is_empty() => Some((Place::Work, text)),
+            Level::MacEncrypted => Some((Place::Work, body_of(text)?)),
         }
     }
 }
 
-// The body of a command, with its place: a part of the data field, or of the text that `decipher_field` left.
-pub fn read_body<'a>(field: &'a [u8], text: &'a [u8], level: Level) -> Option<(Place, &'a [u8])>
-    ensures { option_map (λ p. (p.0, p.1.now)) result ≡ body_at field.now text.now level }
-{
-    match level {
-        Level::Plain => Some((Place::Command, field)),
-        Level::Mac => {
-            if field.len() < 8 {
-                return None;
-            }
-            Some((Place::Command, &field[0..field.len() - 8]))
+impl Session {
+    // Deciphers what a data field holds at level 03 to the front of the work area, and returns its length; at the other levels
+    // nothing is deciphered. None, and nothing written, where it is not whole blocks and a code, or the area is below 256 bytes.
+    pub fn decipher_field<C: Cipher>(&self, field: &[u8], work: &mut [u8]) -> Option<usize>
+        ensures text { (result, work.new) ≡ deciphered_into work.old (text_in C.algorithm self.now field.now self.now.level) }
+        ensures within { IfSome result (λ n. n ≤ length work.old) }
+    {
+        if work.len() < 256 {
+            return None;
         }
-        Level::MacEncrypted => {
-            if text.is_empty() {
-                return Some((Place::Work, text));
+        match self.level {
+            Level::Plain | Level::Mac => Some(0),
+            Level::MacEncrypted => {
+                let (text, _) = field.split_last_chunk::<8>()?;
+                if text.len() > 240 {
+                    return None;
+                }
+                cbc::decipher_blocks::<C>(&self.keys.enc, &[0; 8], text, work)
             }
-            Some((Place::Work, body_of(text)?))
         }
     }
-}
 
-// The last eight bytes of a data field.
-fn code_in(field: &[u8]) -> &[u8]
-    ensures { result.now ≡ code_in field.now }
-{
-    &field[field.len().saturating_sub(8)..]
-}
-
-// The code at the end of a data field, where it is the right one.
-fn right_code<C: Cipher>(session: &Session, command: Command, body: &[u8]) -> Option<[u8; 8]>
-    ensures { result ≡ right_code (algorithm C.Cipher.enc C.Cipher.dec C.Cipher.identifier) session.now (meaning command.entry) body.now }
-{
-    let code = command_code::<C>(
-        &session.keys.mac,
-        &session.chain,
-        command.instruction,
-        command.p1,
-        command.p2,
-        body,
-    )?;
-    if same_bytes(code_in(command.field), &code) {
-        Some(code)
-    } else {
-        None
+    // The code at the end of a data field, where it is the right one.
+    fn right_code<C: Cipher>(&self, command: Command, body: &[u8]) -> Option<[u8; 8]>
+        ensures { result ≡ right_code C.algorithm self.now (meaning command.entry) body.now }
+    {
+        let bare = Command {
+            field: body,
+            ..command
+        };
+        let right = self.code::<C>(bare)?;
+        let (_, code) = command.field.split_last_chunk::<8>()?;
+        (*code == right).then_some(right)
     }
-}
 
-// The chaining value after a command with this body: a right code becomes it, and level 00 leaves it.
-pub fn check_code<C: Cipher>(session: &Session, command: Command, body: &[u8]) -> Option<[u8; 8]>
-    ensures { result ≡ chain_after (algorithm C.Cipher.enc C.Cipher.dec C.Cipher.identifier) session.now (meaning command.entry) body.now session.now.level }
-{
-    match session.level {
-        Level::Plain => Some(session.chain),
-        Level::Mac | Level::MacEncrypted => right_code::<C>(session, command, body),
+    // The chaining value after a command with this body: a right code becomes it, and level 00 leaves it.
+    pub fn check_code<C: Cipher>(&self, command: Command, body: &[u8]) -> Option<[u8; 8]>
+        ensures { result ≡ chain_after C.algorithm self.now (meaning command.entry) body.now self.now.level }
+    {
+        match self.level {
+            Level::Plain => Some(self.chain),
+            Level::Mac | Level::MacEncrypted => self.right_code::<C>(command, body),
+        }
     }
-}
 
-// Whether a level takes commands of this class; `plain` says whether the card lets a channel go without codes.
-pub fn takes_class(level: Level, plain: bool, class: u8) -> bool
-    ensures { result ≡ takes_class plain class level }
-{
-    match level {
-        Level::Plain => plain && class == 0x80,
-        Level::Mac | Level::MacEncrypted => class == 0x84,
+    // What a command inside the channel says, given the text that `decipher_field` left; `plain` says whether the card lets a
+    // channel go without codes.
+    pub fn unwrap<'a, C: Cipher>(
+        &self,
+        plain: bool,
+        command: Command<'a>,
+        text: &'a [u8],
+    ) -> Option<Unwrapped<'a>>
+        ensures { option_map answered result ≡ option_map (placed self.now.level) (unwrapped_from C.algorithm self.now plain (meaning command.entry) self.now.level text.now) }
+    {
+        if !self.level.takes_class(plain, command.class) {
+            return None;
+        }
+        let (place, body) = self.level.read_body(command.field, text)?;
+        let chain = self.check_code::<C>(command, body)?;
+        Some(Unwrapped { place, body, chain })
     }
-}
-
-// What a command inside a channel says, given the text that `decipher_field` left.
-pub fn unwrap<'a, C: Cipher>(
-    session: &Session,
-    plain: bool,
-    command: Command<'a>,
-    text: &'a [u8],
-) -> Option<Unwrapped<'a>>
-    ensures { option_map answered result ≡ option_map (placed session.now.level) (unwrapped_from (algorithm C.Cipher.enc C.Cipher.dec C.Cipher.identifier) session.now plain (meaning command.entry) session.now.level text.now) }
-{
-    if !takes_class(session.level, plain, command.class) {
-        return None;
-    }
-    let (place, body) = read_body(command.field, text, session.level)?;
-    let chain = check_code::<C>(session, command, body)?;
-    Some(Unwrapped { place, body, chain })
 }

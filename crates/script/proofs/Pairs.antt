@@ -8,10 +8,6 @@ abbrev pub behind : List ℕ → Option (List ℕ) → Option (List ℕ)
 behind xs (Some ys) = Some (xs ++ ys)
 behind xs None = None
 
-pub behind_none : (o : Option (List ℕ)) → behind [] o ≡ o
-behind_none (Some ys) = refl
-behind_none None = refl
-
 behind_more : (xs : List ℕ) (b : ℕ) (o : Option (List ℕ)) → behind (xs ++ b ∷ []) o ≡ behind xs (before (Some b) o)
 behind_more xs b (Some ys) = ap Some (append_assoc xs (b ∷ []) ys)
 behind_more xs b None = refl

@@ -1,6 +1,8 @@
 -- The first line of a script, and what is left behind it.
-use Rattle.std.proofs.Common.{◌≡◌, ℕ, ◌+◌, ◌-◌, ◌<◌, ◌≤◌, Bool, true, false, cond, not, eqb, List, [], ◌∷◌, length, take, drop, refl, ap, add-one, one-add, arith}
+use Rattle.std.proofs.Common.{◌≡◌, ℕ, ◌+◌, ◌-◌, ◌<◌, ◌≤◌, Bool, true, false, cond, not, eqb, ltb, ◌==◌, List, [], ◌∷◌, length, take, drop, Some, None, unwrap_or, refl, ap, add-one, one-add, arith}
 use Rattle.std.proofs.lemmas.List.{take_all, take_rest}
+use Rattle.std.proofs.lemmas.List.Sums.{prefix_len-le-length}
+use Rattle.std.specs.List.{position}
 use Rattle.script.specs.Lines.{onto, lines_of, line_length}
 
 -- the first line ends in 0A
@@ -36,6 +38,14 @@ pub no_line : (bs : List ℕ) → length bs ≡ 0 → lines_of bs ≡ []
 unfolding lines_of
 no_line [] h = refl
 no_line (b ∷ bs) h = absurd (omega arith)
+
+-- the first 0A, or else the end
+pub measured : (bs : List ℕ) → line_length bs ≡ unwrap_or (position (λ b. b == 0x0A) bs) (length bs)
+measured bs =
+    let n : ℕ = line_length bs in
+    let most : n ≤ length bs = prefix_len-le-length (λ b. not (b == 0x0A)) bs in
+    let P : Bool → Type 0 = λ t. ltb n (length bs) ≡ t → n ≡ unwrap_or (cond t (Some n) None) (length bs) in
+    elim (ltb n (length bs)) as P [ true ↦ λ _. refl | false ↦ λ no. grind (arith) ] refl
 
 -- the same for a line that was measured, and for what is left as a part of the script
 pub ended_at : (bs rest : List ℕ) (n : ℕ) → n ≡ line_length bs → n < length bs → rest ≡ take (length bs - (n + 1)) (drop (n + 1) bs)

@@ -1,9 +1,10 @@
 -- From the lines of a script to what is printed for it.
-use Rattle.std.proofs.Common.{◌≡◌, ℕ, List, [], map, get_or, take, drop, Ok, Err, sym, ap, ◌∙◌, ap₂}
+use Rattle.std.proofs.Common.{◌≡◌, ℕ, List, [], map, get_or, take, drop, Ok, Err, sym, ap, ◌∙◌, ap₂, Option}
 use Rattle.std.proofs.lemmas.List.{drop-drop, get_or-drop}
 use Rattle.answers.specs.declared.Refusal.{Refusal}
 use Rattle.challenge.specs.Draws.{Challenges, groups}
 use Rattle.cipher.specs.Blocks.{Algorithm}
+use Rattle.rules.specs.Own.{Rule}
 use Rattle.contents.specs.Held.{Held}
 use Rattle.contents.specs.Image.{read_image}
 use Rattle.card.specs.declared.channel.Channel.TheVariants.{Closed}
@@ -20,28 +21,25 @@ pub no_bytes : (lines : List Line) → lines ≡ [] → [] ≡ line_bytes (get_o
 unfolding pairs_of
 no_bytes lines is = rw is
 
-pub none_left : (lines : List Line) → lines ≡ [] → lines ≡ drop 1 lines
-none_left lines is = rw is
-
 -- a card is made
-pub printed_rows : (cipher : Algorithm) (script image : List ℕ) (behind rest : List Line) (coming : Challenges) (h : Held) (m : Model)
+pub printed_rows : {M : Type 0} (named : ℕ → Option M) (rule : Rule M) (cipher : Algorithm) (script image : List ℕ) (behind rest : List Line) (coming : Challenges) (h : Held) (m : Model)
     → image ≡ line_bytes (get_or (lines_of script) 0 []) → behind ≡ drop 1 (lines_of script) → rest ≡ drop 1 behind
     → coming ≡ groups (line_bytes (get_or behind 0 [])) → read_image image ≡ Ok h → m ≡ model h Closed coming
-    → rows_from cipher m 1 (map turn_of (take 4096 rest)) ≡ printed cipher script
+    → rows_from named rule cipher m 1 (map turn_of (take 4096 rest)) ≡ printed named rule cipher script
 unfolding printed
-printed_rows cipher script image behind rest coming h m first one two come read made =
+printed_rows named rule cipher script image behind rest coming h m first one two come read made =
     let d : rest ≡ drop 2 (lines_of script) = two ∙ ap (drop 1) one ∙ drop-drop 1 1 (lines_of script) in
     let s : coming ≡ groups (challenges_in (lines_of script)) =
     come ∙ ap (λ (ls : List Line). groups (line_bytes (get_or ls 0 []))) one
     ∙ ap (λ (l : Line). groups (line_bytes l)) (get_or-drop 1 (lines_of script) 0 []) in
     let r : read_image (image_in (lines_of script)) ≡ Ok h = ap read_image (sym first) ∙ read in
-    ap₂ (λ (n : Model) (ls : List Line). rows_from cipher n 1 (map turn_of (take 4096 ls))) (made ∙ ap (model h Closed) s) d
-    ∙ sym (ap (printed_by cipher (lines_of script)) r)
+    ap₂ (λ (n : Model) (ls : List Line). rows_from named rule cipher n 1 (map turn_of (take 4096 ls))) (made ∙ ap (model h Closed) s) d
+    ∙ sym (ap (printed_by named rule cipher (lines_of script)) r)
 
 -- no card is made
-pub printed_refusal : (cipher : Algorithm) (script image : List ℕ) (refusal : Refusal)
+pub printed_refusal : {M : Type 0} (named : ℕ → Option M) (rule : Rule M) (cipher : Algorithm) (script image : List ℕ) (refusal : Refusal)
     → image ≡ line_bytes (get_or (lines_of script) 0 []) → read_image image ≡ Err refusal
-    → row_bytes (ImageRefused refusal) ≡ printed cipher script
+    → row_bytes (ImageRefused refusal) ≡ printed named rule cipher script
 unfolding printed
-printed_refusal cipher script image refusal first read =
-    sym (ap (printed_by cipher (lines_of script)) (ap read_image (sym first) ∙ read))
+printed_refusal named rule cipher script image refusal first read =
+    sym (ap (printed_by named rule cipher (lines_of script)) (ap read_image (sym first) ∙ read))

@@ -56,8 +56,5 @@ pub(crate) fn line_bytes(heap: Global, line: &[u8]) -> Result<Vec<u8>, AllocErro
     if line.len() > MOST_DIGITS {
         return Ok(Vec::new(heap));
     }
-    match pairs(heap, line)? {
-        Some(bytes) => Ok(bytes),
-        None => Ok(Vec::new(heap)),
-    }
+    Ok(pairs(heap, line)?.unwrap_or_else(|| Vec::new(heap)))
 }

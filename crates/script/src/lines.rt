@@ -1,5 +1,5 @@
 // The lines of a script.
-ghost use Rattle.std.specs.Prelude.{◌≡◌, List, [], ◌∷◌, MatchOption};
+ghost use Rattle.std.specs.Prelude.{◌≡◌, List, [], ◌∷◌, ◌==◌, MatchOption, position};
 ghost use Rattle.script.specs.Lines.{lines_of, line_length};
 
 // What is left to read of a script.
@@ -8,16 +8,18 @@ pub(crate) struct Lines<'a> {
     left: &'a [u8],
 }
 
+// Where the first line ends in a byte 0A.
+fn line_end(text: &[u8]) -> Option<usize>
+    ensures { result ≡ position (λ b. b == 0x0A) text.now }
+{
+    text.iter().position(|byte| *byte == b'\n')
+}
+
 // How long the first line is: up to a byte 0A, or to the end.
 fn line_length(text: &[u8]) -> usize
     ensures { result ≡ line_length text.now }
 {
-    for (i, byte) in text.iter().enumerate() {
-        if *byte == b'\n' {
-            return i;
-        }
-    }
-    text.len()
+    line_end(text).unwrap_or(text.len())
 }
 
 impl<'a> Lines<'a> {

@@ -1,9 +1,9 @@
 // The printed rows.
-ghost use Rattle.std.specs.Prelude.{◌≡◌, ℕ, ◌<◌, IfOk, string_bytes};
-ghost use Rattle.script.specs.Rows.{hex_digit, row_bytes};
+ghost use Rattle.std.specs.Prelude.{Some};
+ghost use Rattle.script.specs.Rows.{row_bytes};
 
 use answers::Refusal;
-use std::alloc::{AllocError, Global};
+use std::fmt;
 
 // A printed row.
 #[derive(Clone, Copy)]
@@ -16,36 +16,19 @@ pub enum Row {
     ImageRefused(Refusal),
 }
 
-fn hex_digit(value: u8) -> char
-    requires { value < 16 }
-    ensures digit { result ≡ hex_digit value }
-    ensures ascii { result < 128 }
-{
-    char::from(b"0123456789ABCDEF"[value as usize])
-}
+impl fmt::Display for Row {
+    ghost output = { λ row. Some (row_bytes row) };
 
-fn answered(heap: Global, number: u16, status: &[u8; 2]) -> Result<String, AllocError>
-    ensures { IfOk result (λ s. string_bytes s ≡ row_bytes (Row.Answered number status.now)) }
-{
-    let [sw1, sw2] = *status;
-    let a = hex_digit(sw1 / 16);
-    let b = hex_digit(sw1 % 16);
-    let c = hex_digit(sw2 / 16);
-    let d = hex_digit(sw2 % 16);
-    format!(in heap; "{number} {a}{b}{c}{d}\n")
-}
-
-impl Row {
-    // The bytes of the row.
-    pub fn text(&self, heap: Global) -> Result<String, AllocError>
-        ensures { IfOk result (λ s. string_bytes s ≡ row_bytes self.now) }
-    {
+    fn fmt<W: fmt::Write>(&self, f: &mut fmt::Formatter<W>) -> fmt::Result {
         match self {
-            Row::Reset(number) => format!(in heap; "{number} ----\n"),
-            Row::Answered(number, status) => answered(heap, *number, status),
+            Row::Reset(number) => write!(f, "{number} ----\n"),
+            Row::Answered(number, status) => {
+                let [sw1, sw2] = *status;
+                write!(f, "{number} {sw1:02X}{sw2:02X}\n")
+            }
             Row::ImageRefused(refusal) => {
-                let number = refusal.number();
-                format!(in heap; "IMAGE {number}\n")
+                let number = u8::from(*refusal);
+                write!(f, "IMAGE {number}\n")
             }
         }
     }

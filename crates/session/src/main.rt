@@ -3,14 +3,14 @@
 // and deletes. Prints what was done and what came back.
 #![tactic(auto)]
 
-mod hex;
 mod scene;
 mod telling;
 mod words;
 
+use apdu::Management;
+use card::card::Card;
 use challenge::recorded::Recorded;
 use contents::records::KeySet;
-use manager::card::Card;
 use runs::conduct::{Report, Talk, conduct};
 use runs::turns::Turn;
 use scp01::Level;
@@ -33,7 +33,7 @@ fn conducted(
     source: Recorded,
     turns: &[Turn],
     talk: &Talk,
-) -> anyhow::Result<Option<Card<TripleDes, Recorded>>> {
+) -> anyhow::Result<Option<Card<TripleDes, Recorded, Management>>> {
     match conduct::<TripleDes, Recorded>(rt.alloc(), image, source, turns, talk) {
         Ok(
             Report {
@@ -53,7 +53,9 @@ fn conducted(
     }
 }
 
-fn first_session(rt: &HostRuntime) -> anyhow::Result<Option<Card<TripleDes, Recorded>>> {
+fn first_session(
+    rt: &HostRuntime,
+) -> anyhow::Result<Option<Card<TripleDes, Recorded, Management>>> {
     let source = Recorded::new(rt.alloc(), scene::CHALLENGES)?;
     let turns = [
         Turn::Command(scene::SELECT_CARD_MANAGER),
@@ -73,7 +75,10 @@ fn first_session(rt: &HostRuntime) -> anyhow::Result<Option<Card<TripleDes, Reco
 }
 
 // Stores the card and conducts a session with one made of its image; it goes on with the same source.
-fn second_session(rt: &HostRuntime, card: Card<TripleDes, Recorded>) -> anyhow::Result<()> {
+fn second_session(
+    rt: &HostRuntime,
+    card: Card<TripleDes, Recorded, Management>,
+) -> anyhow::Result<()> {
     let mut area = [0; 465];
     let Ok(length) = card.write_image(&mut area) else {
         return Ok(());

@@ -1,4 +1,5 @@
 // What the session is about: a card's image and challenges, what strangers hand in, and what the terminals send.
+use cipher::Keys;
 use contents::records::KeySet;
 
 // A SECURED card: its state and diversification data; key set 01, three times the same key, as cards come from the factory; a load
@@ -16,16 +17,20 @@ pub const HOST_CHALLENGE: [u8; 8] = *b"hostside";
 
 pub const FACTORY_KEYS: KeySet = KeySet {
     version: 0x01,
-    enc: *b"@ABCDEFGHIJKLMNO",
-    mac: *b"@ABCDEFGHIJKLMNO",
-    kek: *b"@ABCDEFGHIJKLMNO",
+    keys: Keys {
+        enc: *b"@ABCDEFGHIJKLMNO",
+        mac: *b"@ABCDEFGHIJKLMNO",
+        kek: *b"@ABCDEFGHIJKLMNO",
+    },
 };
 
 pub const NEW_KEYS: KeySet = KeySet {
     version: 0x02,
-    enc: *b"PQRSTUVWXYZ[\\]^_",
-    mac: *b"PQRSTUVWXYZ[\\]^_",
-    kek: *b"PQRSTUVWXYZ[\\]^_",
+    keys: Keys {
+        enc: *b"PQRSTUVWXYZ[\\]^_",
+        mac: *b"PQRSTUVWXYZ[\\]^_",
+        kek: *b"PQRSTUVWXYZ[\\]^_",
+    },
 };
 
 // What strangers hand in.

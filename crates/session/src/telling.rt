@@ -1,23 +1,21 @@
 // A session told in words.
-use crate::hex::Hex;
 use crate::words::{instruction_name, parted, status_meaning};
+use hex::ToHex;
 use runs::conduct::{Conversation, Trouble};
 use runs::turns::{Exchange, Outcome, Served};
 use std::io;
 
 fn print_exchange(rt: &HostRuntime, exchange: &Exchange) -> io::Result<()> {
-    let command = Hex {
-        bytes: &exchange.command,
-    };
+    let command = exchange.command.encode_hex_upper(rt.alloc())?;
     let name = instruction_name(&exchange.command);
     println!(rt; "  -> {command} ({name})")?;
     let (data, status) = parted(&exchange.answer);
     let meaning = status_meaning(status);
-    let status = Hex { bytes: status };
+    let status = status.encode_hex_upper(rt.alloc())?;
     if data.is_empty() {
         return println!(rt; "  <- {status}: {meaning}");
     }
-    let data = Hex { bytes: data };
+    let data = data.encode_hex_upper(rt.alloc())?;
     println!(rt; "  <- {data} {status}: {meaning}")
 }
 
@@ -29,9 +27,7 @@ fn print_outcome(rt: &HostRuntime, outcome: &Outcome) -> io::Result<()> {
 }
 
 fn print_served(rt: &HostRuntime, served: &Served) -> io::Result<()> {
-    let bare = Hex {
-        bytes: &served.bare,
-    };
+    let bare = served.bare.encode_hex_upper(rt.alloc())?;
     println!(rt; "The terminal wraps {bare}:")?;
     print_exchange(rt, &served.sent)
 }
@@ -67,11 +63,11 @@ pub fn print_conversation(
 }
 
 pub fn print_image(rt: &HostRuntime, image: &[u8]) -> io::Result<()> {
-    let image = Hex { bytes: image };
+    let image = image.encode_hex_upper(rt.alloc())?;
     println!(rt; "The card is stored: {image}")
 }
 
 pub fn print_trouble(rt: &HostRuntime, trouble: Trouble) -> io::Result<()> {
-    let number = trouble.number();
+    let number = u8::from(trouble);
     println!(rt; "No session: trouble {number}.")
 }

@@ -7,9 +7,9 @@ use Rattle.answers.specs.Areas.{fronted}
 use Rattle.apdu.specs.declared.Management.{Management}
 use Rattle.apdu.specs.Apdu.{Apdu, apdu, management_of}
 use Rattle.cipher.specs.Blocks.{Algorithm, zeros}
+use Rattle.cipher.specs.declared.Keys.{Keys}
 use Rattle.scp01.specs.declared.Level.{Level}
 use Rattle.scp01.specs.declared.Session.{Session}
-use Rattle.scp01.specs.declared.SessionKeys.{SessionKeys}
 use Rattle.scp01.specs.Levels.{level_of, level_value, session}
 use Rattle.scp01.specs.Wrapping.{wrapped}
 use Rattle.scp01.specs.Session.{session_keys, card_cryptogram, host_cryptogram, command_code}
@@ -21,16 +21,14 @@ use Rattle.terminal.specs.declared.Terminal.{Terminal}
 -- what a terminal is made of, and how far its channel is
 pub record Side : Type 0 where
   pub version : ℕ
-  pub enc : List ℕ
-  pub mac : List ℕ
-  pub kek : List ℕ
+  pub keys : Keys
   pub phase : Phase
 
 abbrev pub side : {C : Type 0} → Terminal C → Side
-side t = record { version = t.version; enc = t.enc; mac = t.mac; kek = t.kek; phase = t.phase }
+side t = record { version = t.version; keys = t.keys; phase = t.phase }
 
 abbrev pub in_phase : Side → Phase → Side
-in_phase t phase = record { version = t.version; enc = t.enc; mac = t.mac; kek = t.kek; phase = phase }
+in_phase t phase = record { version = t.version; keys = t.keys; phase = phase }
 
 -- a version from 01 to 7F and three keys of sixteen bytes
 abbrev pub fit_for : ℕ → List ℕ → List ℕ → List ℕ → Bool
@@ -38,7 +36,7 @@ fit_for version enc mac kek =
     nat_le 1 version && (nat_le version 0x7F && (length enc == 16 && (length mac == 16 && length kek == 16)))
 
 abbrev pub fresh : ℕ → List ℕ → List ℕ → List ℕ → Side
-fresh version enc mac kek = record { version = version; enc = enc; mac = mac; kek = kek; phase = Made }
+fresh version enc mac kek = record { version = version; keys = record { enc = enc; mac = mac; kek = kek }; phase = Made }
 
 abbrev pub made_of : ℕ → List ℕ → List ℕ → List ℕ → Result Side Refusal
 made_of version enc mac kek = cond (fit_for version enc mac kek) (Ok (fresh version enc mac kek)) (Err IllArgument)
@@ -82,7 +80,7 @@ cryptogram_in answer = take 8 (drop 20 answer)
 abbrev pub authenticate_command : ℕ → List ℕ → List ℕ → List ℕ
 authenticate_command level cryptogram code = 0x84 ∷ 0x82 ∷ level ∷ 0x00 ∷ 0x10 ∷ (cryptogram ++ code)
 
-abbrev pub opens : Algorithm → Side → SessionKeys → List ℕ → List ℕ → Level → List ℕ → Outcome
+abbrev pub opens : Algorithm → Side → Keys → List ℕ → List ℕ → Level → List ℕ → Outcome
 opens cipher t keys host card level area =
     let cryptogram = host_cryptogram cipher.enc keys.enc host card in
     let code = command_code cipher.enc keys.mac zeros 0x82 (level_value level) 0x00 cryptogram in
@@ -97,7 +95,7 @@ abbrev pub checks : Algorithm → Side → List ℕ → Option Shown → Level �
 checks cipher t host None level area = refused_as (in_phase t Made) area WrongAnswer
 checks cipher t host (Some shown) level area =
     let card = shown.challenge in
-    let keys = session_keys cipher.enc t.enc t.mac t.kek host card in
+    let keys = session_keys cipher.enc t.keys.enc t.keys.mac t.keys.kek host card in
     cond (bytes_eq shown.cryptogram (card_cryptogram cipher.enc keys.enc host card)) (opens cipher t keys host card level area)
     (refused_as (in_phase t Made) area WrongCryptogram)
 

@@ -1,11 +1,15 @@
 // A terminal: it opens a channel with a card and wraps commands for it.
 #![tactic(auto)]
 
+use cipher::Keys;
 use scp01::Session;
 use std::marker::PhantomData;
 
 pub mod opening;
 pub mod wrapping;
+
+// The shortest area that every command of a terminal fits.
+const AREA: usize = 261;
 
 // How far a terminal's channel is.
 #[derive(Clone, Copy)]
@@ -20,9 +24,7 @@ pub enum Phase {
 #[derive(Drop)]
 pub struct Terminal<C> {
     version: u8,
-    enc: [u8; 16],
-    mac: [u8; 16],
-    kek: [u8; 16],
+    keys: Keys,
     phase: Phase,
     cipher: PhantomData<C>,
 }

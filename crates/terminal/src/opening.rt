@@ -1,116 +1,47 @@
 // Making a terminal, and opening a channel with it.
-ghost use Rattle.std.specs.Prelude.{◌≡◌, ℕ, ◌+◌, ◌≤◌, true, [], ◌∷◌, ◌++◌, length, if◌then◌else◌, Some, None, Ok, Err, MatchResult, nat_eq};
-ghost use Rattle.std.specs.Str.{bytes_eq};
-ghost use Rattle.answers.specs.Areas.{written, fronted};
-ghost use Rattle.cipher.specs.Blocks.{algorithm};
-ghost use Rattle.terminal.specs.Sides.{side, fit_for, fresh, made_of, begins, update_command, is_update, update_in, authenticate_command, authenticates, checks, opens};
+ghost use Rattle.std.specs.Prelude.{◌≡◌, ℕ, ◌≤◌, length, if◌then◌else◌, Ok, Err, MatchResult, nat_eq};
+ghost use Rattle.answers.specs.declared.Refusal.TheVariants.{IllArgument};
+ghost use Rattle.terminal.specs.Sides.{side, made_of, begins, update_in, authenticates, checks};
 
-use crate::{Phase, Terminal};
+use crate::{AREA, Phase, Terminal};
 use answers::Refusal;
-use cipher::Cipher;
-use scp01::{
-    Level, Session, SessionKeys, card_cryptogram, command_code, host_cryptogram, session_keys,
-};
+use apdu::Command;
+use cipher::{Cipher, Keys};
+use scp01::wrapping::write_command;
+use scp01::{ChallengePair, Level, Session};
 use std::marker::PhantomData;
 
-// The shortest area that every command of a terminal fits.
-const AREA: usize = 261;
-
-fn same_bytes(a: &[u8], b: &[u8]) -> bool
-    ensures { result ≡ bytes_eq a.now b.now }
-{
-    a == b
-}
-
-// The sixteen bytes that these are, if they are sixteen.
-fn sixteen(bytes: &[u8]) -> Option<[u8; 16]>
-    ensures { result ≡ (if nat_eq (length bytes.now) 16 then Some bytes.now else None) }
-{
-    if bytes.len() != 16 {
-        return None;
-    }
-    let mut sixteen = [0; 16];
-    sixteen.copy_from_slice(bytes);
-    Some(sixteen)
-}
-
-// The eight bytes from a place on.
-fn eight(bytes: &[u8]) -> Option<[u8; 8]>
-    ensures { result ≡ (if nat_eq (length bytes.now) 8 then Some bytes.now else None) }
-{
-    if bytes.len() != 8 {
-        return None;
-    }
-    let mut eight = [0; 8];
-    eight.copy_from_slice(bytes);
-    Some(eight)
-}
-
-// Writes some bytes from a place on, and says where they end.
-fn put(area: &mut [u8], at: usize, bytes: &[u8]) -> usize
-    requires { at + length bytes.now ≤ length area.old }
-    ensures area { area.new ≡ written area.old at bytes.now }
-    ensures end { result ≡ at + length bytes.now }
-{
-    let end = at + bytes.len();
-    area[at..end].copy_from_slice(bytes);
-    end
-}
-
-// INITIALIZE UPDATE at the front of an area.
-fn send_update(area: &mut [u8], version: u8, host: &[u8; 8]) -> usize
-    requires { 261 ≤ length area.old }
-    ensures area { area.new ≡ fronted area.old (update_command version host.now) }
-    ensures end { result ≡ length (update_command version host.now) }
-{
-    let at = put(area, 0, &[0x80, 0x50, version, 0x00, 0x08]);
-    put(area, at, host)
-}
-
-// Whether an answer is INITIALIZE UPDATE's, for a key set of this version.
-fn is_update(version: u8, answer: &[u8]) -> bool
-    ensures is { result ≡ is_update version answer.now }
-    ensures long { result ≡ true → length answer.now ≡ 30 }
-{
-    answer.len() == 30
-        && answer[28] == 0x90
-        && answer[29] == 0x00
-        && answer[10] == version
-        && answer[11] == 0x01
-}
-
-// What a card shows in such an answer.
+// What a card shows in its answer to INITIALIZE UPDATE.
 #[derive(Clone, Copy)]
 struct Shown {
     challenge: [u8; 8],
     cryptogram: [u8; 8],
 }
 
-fn read_update(version: u8, answer: &[u8]) -> Option<Shown>
-    ensures { result ≡ update_in version answer.now }
-{
-    if !is_update(version, answer) {
-        return None;
+impl Shown {
+    // What such an answer shows, for a key set of this version.
+    fn read(version: u8, answer: &[u8]) -> Option<Shown>
+        ensures { result ≡ update_in version answer.now }
+    {
+        if answer.len() != 30
+            || answer[10] != version
+            || answer[11] != 0x01
+            || answer[28..] != [0x90, 0x00]
+        {
+            return None;
+        }
+        Some(Shown {
+            challenge: answer[12..20].try_into().ok()?,
+            cryptogram: answer[20..28].try_into().ok()?,
+        })
     }
-    let mut challenge = [0; 8];
-    challenge.copy_from_slice(&answer[12..20]);
-    let mut cryptogram = [0; 8];
-    cryptogram.copy_from_slice(&answer[20..28]);
-    Some(Shown {
-        challenge,
-        cryptogram,
-    })
 }
 
-// EXTERNAL AUTHENTICATE at the front of an area.
-fn send_authenticate(area: &mut [u8], level: u8, cryptogram: &[u8; 8], code: &[u8; 8]) -> usize
-    requires { 261 ≤ length area.old }
-    ensures area { area.new ≡ fronted area.old (authenticate_command level cryptogram.now code.now) }
-    ensures end { result ≡ length (authenticate_command level cryptogram.now code.now) }
+// A key, which has sixteen bytes.
+fn key(bytes: &[u8]) -> Result<[u8; 16], Refusal>
+    ensures { result ≡ (if nat_eq (length bytes.now) 16 then Ok bytes.now else Err IllArgument) }
 {
-    let at = put(area, 0, &[0x84, 0x82, level, 0x00, 0x10]);
-    let at = put(area, at, cryptogram);
-    put(area, at, code)
+    bytes.try_into().map_err(|_| Refusal::IllArgument)
 }
 
 impl<C: Cipher> Terminal<C> {
@@ -121,14 +52,14 @@ impl<C: Cipher> Terminal<C> {
         if version < 0x01 || version > 0x7F {
             return Err(Refusal::IllArgument);
         }
-        let (Some(enc), Some(mac), Some(kek)) = (sixteen(enc), sixteen(mac), sixteen(kek)) else {
-            return Err(Refusal::IllArgument);
+        let keys = Keys {
+            enc: key(enc)?,
+            mac: key(mac)?,
+            kek: key(kek)?,
         };
         Ok(Terminal {
             version,
-            enc,
-            mac,
-            kek,
+            keys,
             phase: Phase::Made,
             cipher: PhantomData,
         })
@@ -141,11 +72,17 @@ impl<C: Cipher> Terminal<C> {
         if area.len() < AREA {
             return Err(Refusal::AreaTooShort);
         }
-        let Some(challenge) = eight(host) else {
-            return Err(Refusal::IllArgument);
+        let host = <[u8; 8]>::try_from(host).map_err(|_| Refusal::IllArgument)?;
+        self.phase = Phase::Begun(host);
+        let update = Command {
+            class: 0x80,
+            instruction: 0x50,
+            p1: self.version,
+            p2: 0x00,
+            field: &host,
+            le: None,
         };
-        self.phase = Phase::Begun(challenge);
-        Ok(send_update(area, self.version, &challenge))
+        Ok(write_command(update, area).unwrap())
     }
 
     // EXTERNAL AUTHENTICATE at a level, once the card's answer to INITIALIZE UPDATE is found right.
@@ -155,7 +92,7 @@ impl<C: Cipher> Terminal<C> {
         level: u8,
         area: &mut [u8],
     ) -> Result<usize, Refusal>
-        ensures { (result, side self.new, area.new) ≡ authenticates (algorithm C.Cipher.enc C.Cipher.dec C.Cipher.identifier) (side self.old) answer.now level area.old }
+        ensures { (result, side self.new, area.new) ≡ authenticates C.algorithm (side self.old) answer.now level area.old }
     {
         if area.len() < AREA {
             return Err(Refusal::AreaTooShort);
@@ -163,64 +100,45 @@ impl<C: Cipher> Terminal<C> {
         let Phase::Begun(host) = self.phase else {
             return Err(Refusal::OutOfOrder);
         };
-        let Some(level) = Level::from_value(level) else {
-            return Err(Refusal::IllArgument);
-        };
-        self.check(&host, read_update(self.version, answer), level, area)
+        let level = Level::try_from(level).map_err(|_| Refusal::IllArgument)?;
+        let shown = Shown::read(self.version, answer);
+        self.open(host, shown, level, area)
     }
 
-    // The card's cryptogram is checked before the terminal shows its own.
-    fn check(
+    // EXTERNAL AUTHENTICATE upon what the card shows: its cryptogram is checked before the terminal shows its own.
+    fn open(
         &mut self,
-        host: &[u8; 8],
+        host: [u8; 8],
         shown: Option<Shown>,
         level: Level,
         area: &mut [u8],
     ) -> Result<usize, Refusal>
         requires { 261 ≤ length area.old }
-        ensures { (result, side self.new, area.new) ≡ checks (algorithm C.Cipher.enc C.Cipher.dec C.Cipher.identifier) (side self.old) host.now shown level area.old }
+        ensures { (result, side self.new, area.new) ≡ checks C.algorithm (side self.old) host shown level area.old }
     {
         self.phase = Phase::Made;
-        let Some(shown) = shown else {
-            return Err(Refusal::WrongAnswer);
+        let shown = shown.ok_or(Refusal::WrongAnswer)?;
+        let challenges = ChallengePair {
+            host,
+            card: shown.challenge,
         };
-        let keys = session_keys::<C>(&self.enc, &self.mac, &self.kek, host, &shown.challenge);
-        if !same_bytes(
-            &shown.cryptogram,
-            &card_cryptogram::<C>(&keys.enc, host, &shown.challenge),
-        ) {
+        let keys = challenges.session_keys::<C>(&self.keys);
+        if shown.cryptogram != challenges.card_cryptogram::<C>(&keys) {
             return Err(Refusal::WrongCryptogram);
         }
-        Ok(self.open(keys, host, &shown.challenge, level, area))
-    }
-
-    fn open(
-        &mut self,
-        keys: SessionKeys,
-        host: &[u8; 8],
-        card: &[u8; 8],
-        level: Level,
-        area: &mut [u8],
-    ) -> usize
-        requires { 261 ≤ length area.old }
-        ensures { (Ok result, side self.new, area.new) ≡ opens (algorithm C.Cipher.enc C.Cipher.dec C.Cipher.identifier) (side self.old) keys host.now card.now level area.old }
-    {
-        let cryptogram = host_cryptogram::<C>(&keys.enc, host, card);
-        let Some(code) = command_code::<C>(
-            &keys.mac,
-            &[0; 8],
-            0x82,
-            level.value(),
-            0x00,
-            &cryptogram,
-        ) else {
-            unreachable()
+        let cryptogram = challenges.host_cryptogram::<C>(&keys);
+        let session = Session::open::<C>(level, keys, &cryptogram);
+        let code = session.chain;
+        self.phase = Phase::Open(session);
+        let field = [cryptogram, code];
+        let authenticate = Command {
+            class: 0x84,
+            instruction: 0x82,
+            p1: level.into(),
+            p2: 0x00,
+            field: field.as_flattened(),
+            le: None,
         };
-        self.phase = Phase::Open(Session {
-            level,
-            keys,
-            chain: code,
-        });
-        send_authenticate(area, level.value(), &cryptogram, &code)
+        Ok(write_command(authenticate, area).unwrap())
     }
 }

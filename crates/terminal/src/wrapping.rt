@@ -1,52 +1,31 @@
 // Wrapping commands for an open channel.
-ghost use Rattle.std.specs.Prelude.{◌≡◌, ℕ, ◌≤◌, length, Some};
-ghost use Rattle.apdu.specs.Apdu.{meaning};
-ghost use Rattle.cipher.specs.Blocks.{algorithm};
-ghost use Rattle.scp01.specs.Wrapping.{wrapped};
-ghost use Rattle.terminal.specs.Sides.{side, wraps, wraps_as};
+ghost use Rattle.std.specs.Prelude.{◌≡◌};
+ghost use Rattle.terminal.specs.Sides.{side, wraps};
 
-use crate::{Phase, Terminal};
+use crate::{AREA, Phase, Terminal};
 use answers::Refusal;
 use apdu::{Command, Management};
 use cipher::Cipher;
-use scp01::{Session, wrapping};
+use scp01::Session;
 
 impl<C: Cipher> Terminal<C> {
     // Turns a bare channel command of class 80 into what the card unwraps, and keeps the new chaining value.
     pub fn wrap(&mut self, command: &[u8], area: &mut [u8]) -> Result<usize, Refusal>
-        ensures { (result, side self.new, area.new) ≡ wraps (algorithm C.Cipher.enc C.Cipher.dec C.Cipher.identifier) (side self.old) command.now area.old }
+        ensures { (result, side self.new, area.new) ≡ wraps C.algorithm (side self.old) command.now area.old }
     {
-        if area.len() < 261 {
+        if area.len() < AREA {
             return Err(Refusal::AreaTooShort);
         }
         let Phase::Open(session) = self.phase else {
             return Err(Refusal::OutOfOrder);
         };
-        let Some(command) = Command::read(command) else {
-            return Err(Refusal::IllArgument);
-        };
-        if Management::from_byte(command.instruction).is_none() {
-            return Err(Refusal::IllArgument);
-        }
-        self.send(session, command, area)
-    }
-
-    fn send(
-        &mut self,
-        session: Session,
-        command: Command,
-        area: &mut [u8],
-    ) -> Result<usize, Refusal>
-        requires { 261 ≤ length area.old }
-        ensures { (result, side self.new, area.new) ≡ wraps_as (side self.old) session (wrapped (algorithm C.Cipher.enc C.Cipher.dec C.Cipher.identifier) session (meaning command.entry)) area.old }
-    {
-        let Some(sent) = wrapping::wrap::<C>(&session, command, area) else {
-            return Err(Refusal::IllArgument);
-        };
-        let chain = sent.1;
-        let level = session.level;
-        let keys = session.keys;
-        self.phase = Phase::Open(Session { level, keys, chain });
-        Ok(sent.0)
+        let command = Command::read(command).ok_or(Refusal::IllArgument)?;
+        Management::try_from(command.instruction).map_err(|_| Refusal::IllArgument)?;
+        let sent = session
+            .wrap::<C>(command, area)
+            .ok_or(Refusal::IllArgument)?;
+        let chain = sent.chain;
+        self.phase = Phase::Open(Session { chain, ..session });
+        Ok(sent.length)
     }
 }

@@ -1,11 +1,13 @@
 -- The rotations of the key's halves, and the list of round keys.
-use Rattle.std.proofs.Common.{◌≡◌, ℕ, zero, suc, ◌+◌, ◌-◌, ◌*◌, ◌/◌, ◌%◌, ◌^◌, ◌<◌, ◌≤◌, Bool, true, T, leb, List, [], ◌∷◌, ◌++◌, map, reverse, length, get_or, take, drop, set, sym, refl, ap, ◌∙◌, ap₂, append_assoc, add-one, arith, leb→le, drop-cons, take-suc-set}
+use Rattle.std.proofs.Common.{◌≡◌, ℕ, zero, suc, ◌+◌, ◌-◌, ◌*◌, ◌/◌, ◌%◌, ◌^◌, ◌<◌, ◌≤◌, Bool, true, T, leb, List, [], ◌∷◌, ◌++◌, map, reverse, length, get_or, drop, sym, refl, ap, ◌∙◌, subst, ap₂, arith, leb→le, drop-cons}
 use mathlib.Core.List.{reverse-cons}
+use Rattle.std.specs.Array.{index_steps}
+use Rattle.std.specs.Iterator.{CallableAtEachTurn}
+use Rattle.std.proofs.lemmas.Fn.{serves_by}
 use lib.Bits.{bit_and, bit_xor}
 use Rattle.bits.specs.Permute.{permute}
 use Rattle.bits.proofs.Linear.{Lin, both, both_left, both_right, all, all_at, agree, basis, lin_id, lin_of, lin_xor, lin_and, lin_shr, lin_shl, lin_mod}
 use Rattle.tripledes.specs.Des.{rotated, schedule}
-use Rattle.tripledes.specs.Round.{held}
 use Rattle.tripledes.specs.Tables.{PC2, SHIFTS}
 
 -- how far C and D are rotated in all before each round key
@@ -18,7 +20,7 @@ lin_rotated s =
     lin_xor (λ c. (c * 2 ^ s) % 2 ^ 28) (λ c. c / 2 ^ (28 - s))
     (lin_of (λ c. c % 2 ^ 28) (λ c. c * 2 ^ s) (lin_mod 28) (lin_shl s)) (lin_shr (28 - s))
 
-pub rotated_zero : (c : ℕ) → c < 2 ^ 28 → rotated 0 c ≡ c
+rotated_zero : (c : ℕ) → c < 2 ^ 28 → rotated 0 c ≡ c
 unfolding rotated
 rotated_zero = basis (rotated 0) (λ c. c) (lin_rotated 0) lin_id 28 tt
 
@@ -52,7 +54,7 @@ all_step : T (all steps 16)
 unfolding steps rotated SHIFTS TOTALS
 all_step = tt
 
-pub total_more : (i c : ℕ) → i < 16 → c < 2 ^ 28 → rotated (get_or TOTALS i 0) c ≡ rotated (get_or SHIFTS i 0) (rotated (get_or (0 ∷ TOTALS) i 0) c)
+total_more : (i c : ℕ) → i < 16 → c < 2 ^ 28 → rotated (get_or TOTALS i 0) c ≡ rotated (get_or SHIFTS i 0) (rotated (get_or (0 ∷ TOTALS) i 0) c)
 unfolding steps
 total_more i c h b =
     let s : ℕ = get_or SHIFTS i 0 in
@@ -72,26 +74,47 @@ map_reverse g (x ∷ xs) =
     ∙ ap (λ (zs : List ℕ). zs ++ (g x ∷ [])) (map_reverse g xs)
     ∙ sym (reverse-cons (g x) (map g xs))
 
--- one more round key
-pub key_more : (out ss : List ℕ) (i c d v c' d' : ℕ) → i < length out → i < length ss
-    → c' ≡ rotated (get_or ss i 0) c → d' ≡ rotated (get_or ss i 0) d → held v ≡ permute 56 PC2 (c' * 2 ^ 28 + d')
-    → map held (take (i + 1) (set out i v)) ++ schedule (drop (i + 1) ss) c' d' ≡ map held (take i out) ++ schedule (drop i ss) c d
-unfolding schedule
-key_more out ss i c d v c' d' ho hs ec ed ev =
-    ap (λ (n : ℕ). map held (take n (set out i v)) ++ schedule (drop n ss) c' d') (add-one i)
-    ∙ ap (λ (l : List ℕ). map held l ++ schedule (drop (suc i) ss) c' d') (take-suc-set out i v ho)
-    ∙ ap (λ (l : List ℕ). l ++ schedule (drop (suc i) ss) c' d') (map_append held (take i out) (v ∷ []))
-    ∙ append_assoc (map held (take i out)) (held v ∷ []) (schedule (drop (suc i) ss) c' d')
-    ∙ ap (λ (z : ℕ). map held (take i out) ++ (z ∷ schedule (drop (suc i) ss) c' d')) ev
-    ∙ ap₂ (λ (p q : ℕ). map held (take i out) ++ (permute 56 PC2 (p * 2 ^ 28 + q) ∷ schedule (drop (suc i) ss) p q)) ec ed
-    ∙ sym (ap (λ (l : List ℕ). map held (take i out) ++ schedule l c d) (drop-cons ss i 0 hs))
-
 -- no rotation goes further than 28 places
 abbrev pub within : List ℕ → Bool
 within [] = true
 within (s ∷ ss) = both (leb s 28) (within ss)
 
-pub within_at : (ss : List ℕ) → T (within ss) → (i : ℕ) → i < length ss → get_or ss i 0 ≤ 28
+within_at : (ss : List ℕ) → T (within ss) → (i : ℕ) → i < length ss → get_or ss i 0 ≤ 28
 within_at [] t i h = absurd (omega arith)
 within_at (s ∷ ss) t zero h = leb→le s 28 (both_left (leb s 28) (within ss) t)
 within_at (s ∷ ss) t (suc i) h = within_at ss (both_right (leb s 28) (within ss) t) i (omega arith)
+
+-- a closure that may be called with the place of each rotation, and is left as it was
+pub at_each : {P : Type 0} {R : P → ℕ → P → Type 0} {Q : P → ℕ → Type 0} {f : P} → ((i : ℕ) (q : P) → R f i q → q ≡ f) → ((i : ℕ) → i < 16 → get_or TOTALS i 0 ≤ 28 → Q f i) → CallableAtEachTurn (index_steps 16) R Q 0 f
+unfolding TOTALS
+at_each {P} {R} {Q} {f} same may =
+    serves_by R (λ xs q. q ≡ f) (λ xs q i v j r. same i v (subst (λ (p : P). R p i v) j r)) (index_steps 16) Q 0 f refl
+    (λ xs t q i u y s j. let h : i < 16 = omega (arith, s.0, s.1) in subst (λ (p : P). Q p i) (sym j) (may i h (within_at TOTALS tt i h)))
+
+-- the round key of C and D rotated so far in all
+abbrev pub made : ℕ → ℕ → ℕ → ℕ
+made c d s = permute 56 PC2 (rotated s c * 2 ^ 28 + rotated s d)
+
+-- the round keys from the i-th on, n of them
+scheduled : (n i c d : ℕ) → i + n ≡ 16 → c < 2 ^ 28 → d < 2 ^ 28
+    → schedule (drop i SHIFTS) (rotated (get_or (0 ∷ TOTALS) i 0) c) (rotated (get_or (0 ∷ TOTALS) i 0) d) ≡ map (made c d) (drop i TOTALS)
+unfolding schedule SHIFTS TOTALS
+scheduled zero i c d e hc hd =
+    let k : i ≡ 16 = omega arith in
+    ap (λ (j : ℕ). schedule (drop j SHIFTS) (rotated (get_or (0 ∷ TOTALS) i 0) c) (rotated (get_or (0 ∷ TOTALS) i 0) d)) k
+    ∙ sym (ap (λ (j : ℕ). map (made c d) (drop j TOTALS)) k)
+scheduled (suc n) i c d e hc hd =
+    let h : i < 16 = omega arith in
+    let s : ℕ = get_or SHIFTS i 0 in
+    let t : ℕ = get_or (0 ∷ TOTALS) i 0 in
+    let p = sym (total_more i c h hc) in
+    let q = sym (total_more i d h hd) in
+    ap (λ (l : List ℕ). schedule l (rotated t c) (rotated t d)) (drop-cons SHIFTS i 0 h)
+    ∙ ap₂ (λ (x y : ℕ). permute 56 PC2 (x * 2 ^ 28 + y) ∷ schedule (drop (suc i) SHIFTS) x y) p q
+    ∙ ap (λ (l : List ℕ). made c d (get_or TOTALS i 0) ∷ l) (scheduled n (suc i) c d (omega arith) hc hd)
+    ∙ sym (ap (map (made c d)) (drop-cons TOTALS i 0 h))
+
+-- the round keys of a key, from what permuted choice 1 makes of it
+pub keys_made : (c d : ℕ) → c < 2 ^ 28 → d < 2 ^ 28 → schedule SHIFTS c d ≡ map (made c d) TOTALS
+keys_made c d hc hd =
+    ap₂ (schedule SHIFTS) (sym (rotated_zero c hc)) (sym (rotated_zero d hd)) ∙ scheduled 16 0 c d (omega arith) hc hd

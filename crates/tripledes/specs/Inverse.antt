@@ -7,7 +7,7 @@ use Rattle.cipher.specs.Blocks.{Bytes}
 use Rattle.cipher.proofs.Xors.{small_take}
 use Rattle.bits.specs.Permute.{permute}
 use Rattle.bits.specs.Octets.{value, octets}
-use Rattle.bits.proofs.Octets.{length_octets, octets_small, value_octets, value_lt, octets_value}
+use Rattle.bits.proofs.Octets.{length_octets, octets_small, value_lt, value_below, octets_back, value_back}
 use Rattle.tripledes.specs.Des.{crypt, schedule, round_keys, des, undes}
 use Rattle.tripledes.specs.Laws.{Deciphers, Enciphers, ParityFree, cleared}
 use Rattle.tripledes.specs.Tables.{PC1, SHIFTS}
@@ -49,32 +49,23 @@ ded_back j k x h =
 
 -- ---- over bytes
 
-block_lt : (b : List ℕ) → Bytes 8 b → value b < 2 ^ 64
-block_lt b h = let v = value_lt b h.small in let e = ap (λ (n : ℕ). 2 ^ (8 * n)) h.long in omega arith
-
-block_back : (b : List ℕ) → Bytes 8 b → octets 8 (value b) ≡ b
-block_back b h = ap (λ (n : ℕ). octets n (value b)) (sym h.long) ∙ octets_value b h.small
-
-number_back : (x : ℕ) → x < 2 ^ 64 → value (octets 8 x) ≡ x
-number_back x h = let e = value_octets 8 x in omega arith
-
 pub deciphers : Deciphers
 unfolding encipher decipher
 deciphers k b hk hb =
     let x : ℕ = value b in
     let y : ℕ = des (k1 k) (undes (k2 k) (des (k1 k) x)) in
-    ap (λ (z : ℕ). octets 8 (undes (k1 k) (des (k2 k) (undes (k1 k) z)))) (number_back y (des_lt (k1 k) (undes (k2 k) (des (k1 k) x))))
-    ∙ ap (octets 8) (ede_back (k1 k) (k2 k) x (block_lt b hb))
-    ∙ block_back b hb
+    ap (λ (z : ℕ). octets 8 (undes (k1 k) (des (k2 k) (undes (k1 k) z)))) (value_back y (des_lt (k1 k) (undes (k2 k) (des (k1 k) x))))
+    ∙ ap (octets 8) (ede_back (k1 k) (k2 k) x (value_below 8 b hb.long hb.small))
+    ∙ octets_back 8 b hb.long hb.small
 
 pub enciphers : Enciphers
 unfolding encipher decipher
 enciphers k b hk hb =
     let x : ℕ = value b in
     let y : ℕ = undes (k1 k) (des (k2 k) (undes (k1 k) x)) in
-    ap (λ (z : ℕ). octets 8 (des (k1 k) (undes (k2 k) (des (k1 k) z)))) (number_back y (undes_lt (k1 k) (des (k2 k) (undes (k1 k) x))))
-    ∙ ap (octets 8) (ded_back (k1 k) (k2 k) x (block_lt b hb))
-    ∙ block_back b hb
+    ap (λ (z : ℕ). octets 8 (des (k1 k) (undes (k2 k) (des (k1 k) z)))) (value_back y (undes_lt (k1 k) (des (k2 k) (undes (k1 k) x))))
+    ∙ ap (octets 8) (ded_back (k1 k) (k2 k) x (value_below 8 b hb.long hb.small))
+    ∙ octets_back 8 b hb.long hb.small
 
 bytes_octets : (x : ℕ) → Bytes 8 (octets 8 x)
 bytes_octets x = record { long = length_octets 8 x; small = octets_small 8 x }
@@ -114,7 +105,7 @@ unfolding round_keys masks
 free bs h =
     ap (λ (k : ℕ). schedule SHIFTS (permute 64 PC1 k / 2 ^ 28) (permute 64 PC1 k % 2 ^ 28))
     (value_cleared bs h.small ∙ ap (λ (n : ℕ). bit_and (value bs) (masks n)) h.long)
-    ∙ ap (λ (n : ℕ). schedule SHIFTS (n / 2 ^ 28) (n % 2 ^ 28)) (pc1_free (value bs) (block_lt bs h))
+    ∙ ap (λ (n : ℕ). schedule SHIFTS (n / 2 ^ 28) (n % 2 ^ 28)) (pc1_free (value bs) (value_below 8 bs h.long h.small))
 
 -- eight bytes of a key, from a place on
 half_bytes : (n : ℕ) (k : List ℕ) → n ≤ 8 → Bytes 16 k → Bytes 8 (take 8 (drop n k))

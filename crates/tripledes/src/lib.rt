@@ -1,7 +1,7 @@
 // Triple DES with keying option 2, as a block cipher.
 #![tactic(auto)]
 
-ghost use Rattle.std.specs.Prelude.{◌≡◌, ℕ, ◌≤◌, true, take, drop};
+ghost use Rattle.std.specs.Prelude.{◌≡◌, refl, true};
 ghost use Rattle.tripledes.specs.Laws.{Backwards, Deciphers, Enciphers, ParityFree};
 ghost use Rattle.tripledes.specs.Published.{Published};
 ghost use Rattle.tripledes.specs.Schedules.{enciphering, deciphering};
@@ -9,7 +9,7 @@ ghost use Rattle.tripledes.specs.TripleDes.{encipher, decipher, identifier};
 ghost use Rattle.tripledes.specs.Inverse.{deciphers, enciphers, bytes_enciphered, bytes_deciphered};
 
 use bits::value_of;
-use cipher::Cipher;
+use cipher::{Cipher, halves};
 
 mod rounds;
 mod schedule;
@@ -28,30 +28,20 @@ pub struct Schedules {
     second: Schedule,
 }
 
-// Eight bytes of a key.
-fn half(key: &[u8; 16], from: usize) -> [u8; 8]
-    requires { from ≤ 8 }
-    ensures { result ≡ take 8 (drop from key.now) }
-{
-    let mut bytes = [0; 8];
-    bytes.copy_from_slice(&key[from..from + 8]);
-    bytes
-}
-
 impl Cipher for TripleDes {
     const ALGORITHM: u8 = 0x81;
 
+    ghost ALGORITHM = { identifier };
+
     type RoundKeys = Schedules;
 
-    ghost enc = { encipher };
-
-    ghost dec = { decipher };
-
-    ghost identifier = { identifier };
+    ghost algorithm = { record { enc = encipher; dec = decipher; identifier = identifier } };
 
     ghost enciphering = { enciphering };
 
     ghost deciphering = { deciphering };
+
+    ghost named = { refl };
 
     ghost undone = { deciphers };
 
@@ -61,14 +51,11 @@ impl Cipher for TripleDes {
 
     ghost deciphered = { bytes_deciphered };
 
-    fn identify() -> u8 {
-        Self::ALGORITHM
-    }
-
     fn expand(key: &[u8; 16]) -> Schedules {
+        let [first, second] = halves(key);
         Schedules {
-            first: expanded(value_of(&half(key, 0))),
-            second: expanded(value_of(&half(key, 8))),
+            first: expanded(value_of(&first)),
+            second: expanded(value_of(&second)),
         }
     }
 

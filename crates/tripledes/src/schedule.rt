@@ -1,5 +1,5 @@
 // The key schedule.
-ghost use Rattle.std.specs.Prelude.{◌≡◌, ℕ, ◌^◌, ◌<◌, ◌≤◌, map, reverse};
+ghost use Rattle.std.specs.Prelude.{◌≡◌, ℕ, ◌+◌, ◌*◌, ◌^◌, ◌<◌, ◌≤◌, map, reverse};
 ghost use Rattle.bits.specs.Permute.{permute};
 ghost use Rattle.tripledes.specs.Des.{rotated, round_keys};
 ghost use Rattle.tripledes.specs.Round.{held};
@@ -57,6 +57,14 @@ fn turned(c: u64, places: u32) -> u64
     (((c << 28) ^ c) >> (28 - places)) & 0xfff_ffff
 }
 
+// The round key of C and D, each rotated as far.
+fn round_key(c: u64, d: u64, places: u32) -> u64
+    requires { (c < 2 ^ 28) × (d < 2 ^ 28) × (places ≤ 28) }
+    ensures { held result ≡ permute 56 PC2 (rotated places c * 2 ^ 28 + rotated places d) }
+{
+    choice_two((turned(c, places) << 28) + turned(d, places))
+}
+
 // The sixteen round keys.
 fn round_keys(key: u64) -> [u64; 16]
     ensures { map held result ≡ round_keys key }
@@ -64,13 +72,7 @@ fn round_keys(key: u64) -> [u64; 16]
     let cd = choice_one(key);
     let c = cd >> 28;
     let d = cd & 0xfff_ffff;
-    let mut out = [0; 16];
-    for i in 0..16 {
-        let left = turned(c, TOTALS[i]);
-        let right = turned(d, TOTALS[i]);
-        out[i] = choice_two((left << 28) + right);
-    }
-    out
+    std::array::from_fn(|i| round_key(c, d, TOTALS[i]))
 }
 
 // Round keys in the other order.

@@ -99,13 +99,10 @@ pub cycles_more : (w : List ℕ) (n : ℕ) (h : Halves) → cycle w n (cycles w 
 unfolding cycles
 cycles_more w n h = sym (ap (λ (m : ℕ). cycles w m h) (add-one n))
 
-pub uncycles_more : (w : List ℕ) (n : ℕ) (h : Halves) → n < 32 → uncycles w (32 - (n + 1)) (uncycle w (31 - n) h) ≡ uncycles w (32 - n) h
+pub uncycles_more : (w : List ℕ) (n : ℕ) (h : Halves) → 0 < n → uncycles w (n - 1) (uncycle w (n - 1) h) ≡ uncycles w n h
 unfolding uncycles
-uncycles_more w n h l =
-    let p : 32 - (n + 1) ≡ 31 - n = omega arith in
-    let q : 32 - n ≡ suc (31 - n) = omega arith in
-    ap (λ (m : ℕ). uncycles w m (uncycle w (31 - n) h)) p ∙ sym (ap (λ (m : ℕ). uncycles w m h) q)
+uncycles_more w n h l = let p : suc (n - 1) ≡ n = omega arith in ap (λ (m : ℕ). uncycles w m h) p
 
-pub uncycles_none : (w : List ℕ) (n : ℕ) (h : Halves) → 32 ≤ n → uncycles w (32 - n) h ≡ h
+pub uncycles_none : (w : List ℕ) (n : ℕ) (h : Halves) → n ≤ 0 → uncycles w n h ≡ h
 unfolding uncycles
-uncycles_none w n h l = let p : 32 - n ≡ 0 = omega arith in ap (λ (m : ℕ). uncycles w m h) p
+uncycles_none w n h l = let p : n ≡ 0 = omega arith in ap (λ (m : ℕ). uncycles w m h) p

@@ -1,13 +1,13 @@
 // XTEA as a block cipher: a small cipher from which one's own can be copied.
 #![tactic(auto)]
 
-ghost use Rattle.std.specs.Prelude.{◌≡◌, ◌<◌, ◌≤◌, take, drop};
+ghost use Rattle.std.specs.Prelude.{◌≡◌, refl, ◌<◌};
 ghost use Rattle.xtea.specs.Xtea.{cycle, cycles, decipher, deciphering, encipher, enciphering, first_key, halves, identifier, joined, mix, second_key, sum, uncycle, uncycles, words_of};
 ghost use Rattle.xtea.specs.Cycles.{cycles_small, cycles_undone, uncycles_small, cycles_redone};
 ghost use Rattle.xtea.specs.Blocks.{over_blocks, bytes_joined};
 
 use bits::{octets_of, value_of};
-use cipher::Cipher;
+use cipher::{Cipher, halves};
 
 const DELTA: u32 = 0x9E37_79B9;
 
@@ -15,16 +15,6 @@ const CYCLES: u32 = 32;
 
 // The name by which the cipher is chosen.
 pub struct Xtea;
-
-// Eight bytes of a key.
-fn half(key: &[u8; 16], from: usize) -> [u8; 8]
-    requires { from ≤ 8 }
-    ensures { result ≡ take 8 (drop from key.now) }
-{
-    let mut bytes = [0; 8];
-    bytes.copy_from_slice(&key[from..from + 8]);
-    bytes
-}
 
 // The two words of eight bytes.
 fn halves_of(block: &[u8; 8]) -> (u32, u32)
@@ -102,8 +92,8 @@ fn all_uncycled(words: &[u32; 4], start: (u32, u32)) -> (u32, u32)
     ensures { result ≡ uncycles words.now 32 start }
 {
     let mut halves = start;
-    for n in 0..CYCLES {
-        halves = uncycled(words, CYCLES - 1 - n, halves);
+    for n in (0..CYCLES).rev() {
+        halves = uncycled(words, n, halves);
     }
     halves
 }
@@ -111,17 +101,17 @@ fn all_uncycled(words: &[u32; 4], start: (u32, u32)) -> (u32, u32)
 impl Cipher for Xtea {
     const ALGORITHM: u8 = 0xF2;
 
+    ghost ALGORITHM = { identifier };
+
     type RoundKeys = [u32; 4];
 
-    ghost enc = { encipher };
-
-    ghost dec = { decipher };
-
-    ghost identifier = { identifier };
+    ghost algorithm = { record { enc = encipher; dec = decipher; identifier = identifier } };
 
     ghost enciphering = { enciphering };
 
     ghost deciphering = { deciphering };
+
+    ghost named = { refl };
 
     ghost undone = { λ k b _ h.
         let w = words_of k in
@@ -135,13 +125,10 @@ impl Cipher for Xtea {
 
     ghost deciphered = { λ k b _ _. bytes_joined (uncycles (words_of k) 32 (halves b)) };
 
-    fn identify() -> u8 {
-        Self::ALGORITHM
-    }
-
     fn expand(key: &[u8; 16]) -> [u32; 4] {
-        let (a, b) = halves_of(&half(key, 0));
-        let (c, d) = halves_of(&half(key, 8));
+        let [front, back] = halves(key);
+        let (a, b) = halves_of(&front);
+        let (c, d) = halves_of(&back);
         [a, b, c, d]
     }
 

@@ -11,6 +11,7 @@ use answers::Refusal;
 use challenge::Source;
 use cipher::Cipher;
 use contents::Contents;
+use rules::manage::OwnRule;
 use std::marker::PhantomData;
 
 // Why no card was made, and the source that it was to draw from.
@@ -20,9 +21,9 @@ pub struct Unmade<S> {
     pub source: S,
 }
 
-impl<C: Cipher, S: Source> Card<C, S> {
+impl<C: Cipher, S: Source, M: OwnRule> Card<C, S, M> {
     // A card of an image, with no channel. A refused image hands the source back.
-    pub fn make(image: &[u8], source: S) -> Result<Card<C, S>, Unmade<S>>
+    pub fn make(image: &[u8], source: S) -> Result<Card<C, S, M>, Unmade<S>>
         ensures { Made S.Source.coming image.now source result }
     {
         match Contents::from_image(image) {
@@ -31,6 +32,7 @@ impl<C: Cipher, S: Source> Card<C, S> {
                 channel: Channel::Closed,
                 source,
                 cipher: PhantomData,
+                commands: PhantomData,
             }),
             Err(refusal) => Err(Unmade { refusal, source }),
         }

@@ -1,97 +1,87 @@
 // INITIALIZE UPDATE and EXTERNAL AUTHENTICATE.
-ghost use Rattle.std.specs.Prelude.{◌≡◌, ℕ, List, ◌++◌, length};
-ghost use Rattle.cipher.specs.Blocks.{algorithm};
+ghost use Rattle.std.specs.Prelude.{◌≡◌};
 ghost use Rattle.apdu.specs.Apdu.{meaning};
+ghost use Rattle.scp01.specs.Levels.{level_value};
 ghost use Rattle.card.specs.Cards.{view};
 ghost use Rattle.card.specs.Models.{Did};
-ghost use Rattle.card.specs.Opening.{updated, authenticated, at_level, proved};
+ghost use Rattle.card.specs.Opening.{updated, authenticated, proved};
 
 use crate::answer::{Answer, Update};
-use crate::bytes::{eight, same_bytes};
 use crate::card::Card;
 use crate::channel::{Channel, Handshake, granted_level};
 use answers::StatusWord;
 use apdu::Command;
 use challenge::Source;
 use cipher::Cipher;
-use scp01::{Level, Session, card_cryptogram, command_code, host_cryptogram, session_keys};
+use rules::manage::OwnRule;
+use scp01::{ChallengePair, Level, Session};
 
-impl<C: Cipher, S: Source> Card<C, S> {
-    pub(crate) fn initialize_update(&mut self, command: Command) -> Answer
-        ensures did { Did (updated (algorithm C.Cipher.enc C.Cipher.dec C.Cipher.identifier) (view S.Source.coming self.old) (meaning command.entry)) (view S.Source.coming self.new) result }
+impl<C: Cipher, S: Source, M: OwnRule> Card<C, S, M> {
+    pub(crate) fn initialize_update(&mut self, command: Command) -> Result<Answer, StatusWord>
+        ensures did { Did (updated C.algorithm (view S.Source.coming self.old) (meaning command.entry)) (view S.Source.coming self.new) result }
         ensures whole { S.Source.whole self.new.source ≡ S.Source.whole self.old.source }
     {
         if command.p2 != 0x00 {
-            return Answer::Status(StatusWord::WrongParameters);
+            return Err(StatusWord::WrongParameters);
         }
-        let Some(host) = eight(command.field) else {
-            return Answer::Status(StatusWord::WrongLength);
-        };
-        let Some(set) = self.contents.key_set(command.p1) else {
-            return Answer::Status(StatusWord::NotFound);
-        };
-        let Some(card) = self.source.draw() else {
-            return Answer::Status(StatusWord::NoDiagnosis);
-        };
-        let keys = session_keys::<C>(&set.enc, &set.mac, &set.kek, &host, &card);
-        let cryptogram = card_cryptogram::<C>(&keys.enc, &host, &card);
-        self.channel = Channel::Waiting(Handshake { keys, host, card });
-        Answer::Updated(Update {
+        let host = <[u8; 8]>::try_from(command.field).map_err(|_| StatusWord::WrongLength)?;
+        let set = self
+            .contents
+            .key_set(command.p1)
+            .ok_or(StatusWord::NotFound)?;
+        let card = self.source.draw().ok_or(StatusWord::NoDiagnosis)?;
+        let challenges = ChallengePair { host, card };
+        let keys = challenges.session_keys::<C>(&set.keys);
+        self.channel = Channel::Waiting(Handshake { keys, challenges });
+        let update = Update {
             diversification: self.contents.diversification(),
             version: set.version,
             challenge: card,
-            cryptogram,
-        })
+            cryptogram: challenges.card_cryptogram::<C>(&keys),
+        };
+        Ok(update.answer())
     }
 
+    // `handshake` is what waited.
     pub(crate) fn external_authenticate(
         &mut self,
         handshake: Option<Handshake>,
         command: Command,
-    ) -> Answer
-        ensures did { Did (authenticated (algorithm C.Cipher.enc C.Cipher.dec C.Cipher.identifier) (view S.Source.coming self.old) handshake (meaning command.entry)) (view S.Source.coming self.new) result }
+    ) -> Result<Answer, StatusWord>
+        ensures did { Did (authenticated C.algorithm (view S.Source.coming self.old) handshake (meaning command.entry)) (view S.Source.coming self.new) result }
         ensures whole { S.Source.whole self.new.source ≡ S.Source.whole self.old.source }
     {
-        let Some(handshake) = handshake else {
-            return Answer::Status(StatusWord::ConditionsNotSatisfied);
-        };
+        let handshake = handshake.ok_or(StatusWord::ConditionsNotSatisfied)?;
         if command.p2 != 0x00 {
-            return Answer::Status(StatusWord::WrongParameters);
+            return Err(StatusWord::WrongParameters);
         }
-        let Some(level) = granted_level(self.contents.state(), command.p1) else {
-            return Answer::Status(StatusWord::WrongParameters);
-        };
-        if command.field.len() != 16 {
-            return Answer::Status(StatusWord::WrongLength);
-        }
-        self.prove(&handshake, level, command.p1, command.field)
+        let level = granted_level(self.contents.state(), command.p1).ok_or(
+            StatusWord::WrongParameters,
+        )?;
+        let field = <[u8; 16]>::try_from(command.field).map_err(|_| StatusWord::WrongLength)?;
+        self.prove(&handshake, level, &field)
     }
 
     // The host cryptogram and the code over it: the channel is open where both are right.
-    fn prove(&mut self, handshake: &Handshake, level: Level, p1: u8, field: &[u8]) -> Answer
-        requires { length field.now ≡ 16 }
-        ensures did { Did (proved (algorithm C.Cipher.enc C.Cipher.dec C.Cipher.identifier) (view S.Source.coming self.old) handshake.now level p1 field.now) (view S.Source.coming self.new) result }
+    fn prove(
+        &mut self,
+        handshake: &Handshake,
+        level: Level,
+        field: &[u8; 16],
+    ) -> Result<Answer, StatusWord>
+        ensures did { Did (proved C.algorithm (view S.Source.coming self.old) handshake.now level (level_value level) field.now) (view S.Source.coming self.new) result }
         ensures whole { S.Source.whole self.new.source ≡ S.Source.whole self.old.source }
     {
+        let right = handshake.challenges.host_cryptogram::<C>(&handshake.keys);
         let (cryptogram, code) = field.split_at(8);
-        let keys = handshake.keys;
-        if !same_bytes(
-            cryptogram,
-            &host_cryptogram::<C>(&keys.enc, &handshake.host, &handshake.card),
-        ) {
-            return Answer::Status(StatusWord::CryptogramRejected);
+        if cryptogram != right.as_slice() {
+            return Err(StatusWord::CryptogramRejected);
         }
-        let Some(right) = command_code::<C>(&keys.mac, &[0; 8], 0x82, p1, 0x00, cryptogram) else {
-            unreachable()
-        };
-        if !same_bytes(code, &right) {
-            return Answer::Status(StatusWord::SecurityNotSatisfied);
+        let session = Session::open::<C>(level, handshake.keys, &right);
+        if code != session.chain.as_slice() {
+            return Err(StatusWord::SecurityNotSatisfied);
         }
-        self.channel = Channel::Open(Session {
-            level,
-            keys,
-            chain: right,
-        });
-        Answer::Status(StatusWord::Success)
+        self.channel = Channel::Open(session);
+        Ok(Answer::only(StatusWord::Success))
     }
 }

@@ -1,6 +1,4 @@
-// What has been read of an image so far.
-ghost use Rattle.std.specs.Prelude.{◌≤◌};
-
+// The parts of what a card holds, and the kinds of an image's records.
 use crate::life::CardState;
 use crate::records::{KeySets, Registry};
 
@@ -13,11 +11,11 @@ pub enum Kind {
     End,
 }
 
+// What has been read of an image, or what a card holds: sound only where `Contents` says so.
 #[derive(Clone, Copy)]
 pub struct Draft {
     pub state: CardState,
     pub diversification: [u8; 10],
     pub sets: KeySets,
     pub registry: Registry,
-    ghost counted: { (sets.count ≤ 4) × (registry.count ≤ 12) },
 }

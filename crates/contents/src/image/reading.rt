@@ -4,9 +4,8 @@ ghost use Rattle.contents.specs.Draft.{drafted, Drafts, Leaves};
 ghost use Rattle.contents.specs.Image.{next_kind, grown_by, read_key_set, read_entry, read_body, read_record, read_rest, header_in, read_header, read_image};
 
 use crate::image::draft::{Draft, Kind};
-use crate::image::fields::{entry_in, key_set_in};
-use crate::life::CardState;
-use crate::records::{KeySets, Registry};
+use crate::image::fields::{entry_in, header_in, key_set_in};
+use crate::records::{KeySets, NO_ENTRY, NO_KEY_SET, Registry};
 use answers::Refusal;
 
 impl Draft {
@@ -14,19 +13,13 @@ impl Draft {
     fn from_header_body(body: &[u8]) -> Result<Draft, Refusal>
         ensures { Drafts result (header_in body.now) }
     {
-        if body.len() < 11 {
-            return Err(Refusal::ImageEndsEarly);
-        }
-        let Some(state) = CardState::from_value(body[0]) else {
-            return Err(Refusal::FieldValue);
-        };
-        let mut diversification = [0; 10];
-        diversification.copy_from_slice(&body[1..11]);
+        let body = body.first_chunk().ok_or(Refusal::ImageEndsEarly)?;
+        let (state, diversification) = header_in(body).ok_or(Refusal::FieldValue)?;
         Ok(Draft {
             state,
             diversification,
-            sets: KeySets::empty(),
-            registry: Registry::empty(),
+            sets: KeySets::empty(NO_KEY_SET),
+            registry: Registry::empty(NO_ENTRY),
         })
     }
 
@@ -61,17 +54,13 @@ impl Draft {
         ensures rest { Leaves result (read_key_set (drafted self.old) body.now) }
         ensures draft { drafted self.new ≡ grown_by (read_key_set (drafted self.old) body.now) (drafted self.old) }
     {
-        if body.len() < 49 {
-            return Err(Refusal::ImageEndsEarly);
-        }
-        let Some(set) = key_set_in(body) else {
-            return Err(Refusal::FieldValue);
-        };
-        if self.sets.has_version(set.version) {
+        let (body, rest) = body.split_first_chunk().ok_or(Refusal::ImageEndsEarly)?;
+        let set = key_set_in(body).ok_or(Refusal::FieldValue)?;
+        if self.sets.has(set.version) {
             return Err(Refusal::Duplicate);
         }
         self.sets.push(set);
-        Ok(Some(&body[49..]))
+        Ok(Some(rest))
     }
 
     // Takes in the body of an entry's record; the bytes behind it.
@@ -80,17 +69,13 @@ impl Draft {
         ensures rest { Leaves result (read_entry (drafted self.old) body.now) }
         ensures draft { drafted self.new ≡ grown_by (read_entry (drafted self.old) body.now) (drafted self.old) }
     {
-        if body.len() < 20 {
-            return Err(Refusal::ImageEndsEarly);
-        }
-        let Some(entry) = entry_in(body) else {
-            return Err(Refusal::FieldValue);
-        };
-        if self.registry.has_name(entry.aid.name()) {
+        let (body, rest) = body.split_first_chunk().ok_or(Refusal::ImageEndsEarly)?;
+        let entry = entry_in(body).ok_or(Refusal::FieldValue)?;
+        if self.registry.has(entry.aid.name()) {
             return Err(Refusal::Duplicate);
         }
         self.registry.push(entry);
-        Ok(Some(&body[20..]))
+        Ok(Some(rest))
     }
 
     // Takes in the record of this kind, if one may come next.
@@ -98,16 +83,11 @@ impl Draft {
         ensures rest { Leaves result (read_body (next_kind kind (drafted self.old)) (drafted self.old) body.now) }
         ensures draft { drafted self.new ≡ grown_by (read_body (next_kind kind (drafted self.old)) (drafted self.old) body.now) (drafted self.old) }
     {
-        match self.next_kind(kind) {
-            None => Err(Refusal::RecordKind),
-            Some(Kind::Keys) => self.take_key_set(body),
-            Some(Kind::Registered) => self.take_entry(body),
-            Some(Kind::End) => {
-                if !body.is_empty() {
-                    return Err(Refusal::TrailingBytes);
-                }
-                Ok(None)
-            }
+        match self.next_kind(kind).ok_or(Refusal::RecordKind)? {
+            Kind::Keys => self.take_key_set(body),
+            Kind::Registered => self.take_entry(body),
+            Kind::End if body.is_empty() => Ok(None),
+            Kind::End => Err(Refusal::TrailingBytes),
         }
     }
 

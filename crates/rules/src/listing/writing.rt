@@ -2,31 +2,20 @@
 ghost use Rattle.std.specs.Prelude.{◌≡◌, ◌+◌, ◌≤◌, true, [], ◌++◌, length, ◌==◌};
 ghost use Rattle.contents.specs.Held.{all, sound_entry};
 ghost use Rattle.contents.specs.Records.{name_of};
-ghost use Rattle.rules.specs.GetStatus.{is_of_kind, record_of, shown, status_records};
+ghost use Rattle.rules.specs.GetStatus.{record_of, shown, status_records};
 ghost use Rattle.rules.specs.Listings.{listing_bytes};
 
 use crate::listing::Listing;
+use arrayvec::ArrayVec;
 use contents::life::EntryKind;
 use contents::records::Entry;
 
-fn is_of_kind(entry: &Entry, kind: EntryKind) -> bool
-    ensures { result ≡ is_of_kind kind entry.now }
-{
-    match (kind, entry.kind) {
-        (EntryKind::LoadFile, EntryKind::LoadFile) => true,
-        (EntryKind::Application, EntryKind::Application) => true,
-        (_, _) => false,
-    }
-}
-
 impl Listing {
     fn empty() -> Listing
-        ensures bytes { listing_bytes result ≡ [] }
-        ensures len { result.len ≡ 0 }
+        ensures { listing_bytes result ≡ [] }
     {
         Listing {
-            bytes: [0; 228],
-            len: 0,
+            bytes: ArrayVec::new(),
         }
     }
 
@@ -35,44 +24,41 @@ impl Listing {
         ensures bytes { result.now ≡ listing_bytes self.now }
         ensures short { length result.now ≤ 228 }
     {
-        &self.bytes[0..self.len]
+        self.bytes.as_slice()
     }
 
     pub(crate) fn is_empty(&self) -> bool
         ensures { result ≡ (length (listing_bytes self.now) == 0) }
     {
-        self.as_slice().len() == 0
+        self.bytes.is_empty()
     }
 
     fn extend(&mut self, more: &[u8])
-        requires { self.old.len + length more.now ≤ 228 }
-        ensures bytes { listing_bytes self.new ≡ listing_bytes self.old ++ more.now }
-        ensures len { self.new.len ≡ self.old.len + length more.now }
+        requires { length (listing_bytes self.old) + length more.now ≤ 228 }
+        ensures { listing_bytes self.new ≡ listing_bytes self.old ++ more.now }
     {
-        let end = self.len + more.len();
-        self.bytes[self.len..end].copy_from_slice(more);
-        self.len = end;
+        self.bytes.try_extend_from_slice(more).unwrap();
     }
 
     // The length of the name, the name, the state and the privileges.
     fn record(&mut self, entry: &Entry)
-        requires { (self.old.len + 19 ≤ 228) × (length (name_of entry.now) ≤ 16) }
+        requires { (length (listing_bytes self.old) + 19 ≤ 228) × (length (name_of entry.now) ≤ 16) }
         ensures bytes { listing_bytes self.new ≡ listing_bytes self.old ++ record_of entry.now }
-        ensures len { self.new.len ≤ self.old.len + 19 }
+        ensures len { length (listing_bytes self.new) ≤ length (listing_bytes self.old) + 19 }
     {
         let name = entry.aid.name();
         self.extend(&[name.len() as u8]);
         self.extend(name);
-        self.extend(&[entry.state.value(), entry.privileges]);
+        self.extend(&[u8::from(entry.state), entry.privileges]);
     }
 
     // The record of an entry of this kind; of another, nothing.
     fn show(&mut self, entry: &Entry, kind: EntryKind)
-        requires { (self.old.len + 19 ≤ 228) × (length (name_of entry.now) ≤ 16) }
+        requires { (length (listing_bytes self.old) + 19 ≤ 228) × (length (name_of entry.now) ≤ 16) }
         ensures bytes { listing_bytes self.new ≡ listing_bytes self.old ++ shown kind entry.now }
-        ensures len { self.new.len ≤ self.old.len + 19 }
+        ensures len { length (listing_bytes self.new) ≤ length (listing_bytes self.old) + 19 }
     {
-        if is_of_kind(entry, kind) {
+        if entry.kind == kind {
             self.record(entry);
         }
     }

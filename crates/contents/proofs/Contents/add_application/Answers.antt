@@ -11,4 +11,4 @@ invariant_of-self c =
     let after = listed c.add_application.new.self in
     let change = c.add_application.ensures in
     let sure = application_sound_after h.entries after c.args.name.now c.args.state c.args.privileges c.add_application.result (sound_parts h contents.ok).2 change.taken change.list in
-    record { counted = (contents.counted.0, change.counted contents.counted.1); ok = entries_replaced h after contents.ok sure }
+    record { ok = entries_replaced h after contents.ok sure }

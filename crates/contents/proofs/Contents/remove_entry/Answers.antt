@@ -11,4 +11,4 @@ invariant_of-self c =
     let after = listed c.remove_named.new.self in
     let change = c.remove_named.ensures in
     let sure = without_sound h.entries after c.args.name.now (sound_parts h contents.ok).2 change.list in
-    record { counted = (contents.counted.0, change.counted); ok = entries_replaced h after contents.ok sure }
+    record { ok = entries_replaced h after contents.ok sure }

@@ -1,4 +1,3 @@
-use Rattle.std.proofs.Common.{arith}
 use Rattle.contents.specs.Contents.{held}
 use Rattle.contents.specs.Records.{listed}
 use Rattle.contents.proofs.Altered.{sound_parts, entries_replaced, state_change_sound}
@@ -11,4 +10,4 @@ invariant_of-self c =
     let after = listed c.set_application_state.new.self in
     let change = c.set_application_state.ensures in
     let sure = state_change_sound h.entries after c.args.name.now c.args.state c.set_application_state.result (sound_parts h contents.ok).2 change.taken change.list in
-    record { counted = (contents.counted.0, omega (arith, change.count, contents.counted.1)); ok = entries_replaced h after contents.ok sure }
+    record { ok = entries_replaced h after contents.ok sure }

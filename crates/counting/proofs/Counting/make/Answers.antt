@@ -1,11 +1,16 @@
-use Rattle.std.proofs.Common.{rules}
+use Rattle.counting.specs.Counted.{Distinct}
 use Rattle.counting.proofs.Counts.{distinct}
+use Rattle.counting.proofs.Counting.make.Given as given
 use Rattle.counting.proofs.Counting.make.Goals as goal
 
-pub returns-in_default : goal.returns-in_default
-returns-in_default g c =
-    record { coming = search rules; whole = search rules; distinct = distinct g.C.Cipher.enc g.C.Cipher.dec g.met.C.Cipher.undone }
+by-laws : (g : given.Over) → Distinct g.C.Cipher.algorithm.enc
+by-laws g = distinct g.C.Cipher.algorithm.enc g.C.Cipher.algorithm.dec g.met.C.Cipher.undone
 
-pub returns : goal.returns
-returns g c =
-    record { coming = search rules; whole = search rules; distinct = distinct g.C.Cipher.enc g.C.Cipher.dec g.met.C.Cipher.undone }
+pub returns-in_err-key-clause-distinct : goal.returns-in_err-key-clause-distinct
+returns-in_err-key-clause-distinct g c = by-laws g
+
+pub returns-in_err-start-clause-distinct : goal.returns-in_err-start-clause-distinct
+returns-in_err-start-clause-distinct g c = by-laws g
+
+pub returns-clause-distinct : goal.returns-clause-distinct
+returns-clause-distinct g c = by-laws g

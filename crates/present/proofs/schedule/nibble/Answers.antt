@@ -1,8 +1,7 @@
 use Rattle.std.proofs.Common.{refl}
 use Rattle.present.specs.Tables.{SBOX}
-use Rattle.present.specs.Boxes.{box_lt}
 use Rattle.present.proofs.schedule.nibble.Goals as goal
 
-pub returns : goal.returns
+pub returns-clause-value : goal.returns-clause-value
 unfolding SBOX
-returns c = record { value = refl; small = box_lt c.args.x c.requires }
+returns-clause-value c = refl

@@ -1,6 +1,5 @@
 use Rattle.std.proofs.Common.{◌≡◌, true, false, map, vec_items, sym, ◌∙◌, rules}
-use Rattle.cipher.specs.Blocks.{algorithm}
-use Rattle.manager.specs.Cards.{view}
+use Rattle.card.specs.Cards.{view}
 use Rattle.terminal.specs.Sides.{side}
 use Rattle.runs.specs.Conversing.{opening_in, opening_events}
 use Rattle.runs.specs.Sending.{served_in, sending_event}
@@ -10,7 +9,7 @@ use Rattle.runs.proofs.conduct.converse.Goals as goal
 
 pub returns : goal.returns
 returns g c =
-    let cipher = algorithm g.C.Cipher.enc g.C.Cipher.dec g.C.Cipher.identifier in
+    let cipher = g.C.Cipher.algorithm in
     let view_of = view {C = g.row.C.Denot} g.S.Source.coming in
     let side-of = side {C = g.row.C.Denot} in
     let o = opening_in c.in_ok-opening.opening in
@@ -28,7 +27,7 @@ returns g c =
 
 pub returns-then-not-is_open : goal.returns-then-not-is_open
 returns-then-not-is_open g c =
-    let cipher = algorithm g.C.Cipher.enc g.C.Cipher.dec g.C.Cipher.identifier in
+    let cipher = g.C.Cipher.algorithm in
     let view_of = view {C = g.row.C.Denot} g.S.Source.coming in
     let side-of = side {C = g.row.C.Denot} in
     let o = opening_in c.in_ok-opening.opening in

@@ -1,7 +1,6 @@
 use Rattle.std.proofs.Common.{lit≤}
 use Rattle.std.proofs.lemmas.Result.{IfOk-weaker}
-use Rattle.cipher.specs.Blocks.{algorithm}
-use Rattle.manager.specs.Cards.{view}
+use Rattle.card.specs.Cards.{view}
 use Rattle.terminal.specs.Sides.{side}
 use Rattle.runs.specs.Conversing.{blank}
 use Rattle.runs.specs.Turns.{exchanged}
@@ -10,7 +9,7 @@ use Rattle.runs.proofs.converse.begin.Goals as goal
 
 pub returns : goal.returns
 returns g c =
-    let cipher = algorithm g.C.Cipher.enc g.C.Cipher.dec g.C.Cipher.identifier in
+    let cipher = g.C.Cipher.algorithm in
     let view_of = view {C = g.row.C.Denot} g.S.Source.coming in
     let side-of = side {C = g.row.C.Denot} in
     record {

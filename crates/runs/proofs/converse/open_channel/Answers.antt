@@ -1,8 +1,8 @@
 use Rattle.std.proofs.Common.{◌≡◌, ℕ, ◌<◌, List, get_or, ap, ◌∙◌, subst, rules}
 use Rattle.std.specs.Option.{option_map}
-use Rattle.cipher.specs.Blocks.{Bytes, Undoes, algorithm}
-use Rattle.manager.specs.Cards.{view}
-use Rattle.manager.specs.Models.{Fit}
+use Rattle.cipher.specs.Blocks.{Bytes, Undoes}
+use Rattle.card.specs.Cards.{view}
+use Rattle.card.specs.Models.{Fit}
 use Rattle.terminal.specs.Sides.{side}
 use Rattle.runs.specs.Conversing.{Carried, showing}
 use Rattle.runs.specs.Turns.{exchanged}
@@ -12,15 +12,15 @@ use Rattle.runs.proofs.converse.open_channel.Goals as goal
 
 pub returns : goal.returns
 returns g c =
-    let cipher = algorithm g.C.Cipher.enc g.C.Cipher.dec g.C.Cipher.identifier in
+    let cipher = g.C.Cipher.algorithm in
     let view_of = view {C = g.row.C.Denot} g.S.Source.coming in
     let side-of = side {C = g.row.C.Denot} in
-    let laws : Undoes g.C.Cipher.enc g.C.Cipher.dec = record { enciphered = g.met.C.Cipher.enciphered; undone = g.met.C.Cipher.undone } in
+    let laws : Undoes g.C.Cipher.algorithm.enc g.C.Cipher.algorithm.dec = record { enciphered = g.met.C.Cipher.enciphered; undone = g.met.C.Cipher.undone } in
     let card = c.args.card.now in
     let set = c.args.set.now in
     let fit : Fit (view_of card) = record { channel = card.sized; contents = card.contents.ok } in
-    let enc : Bytes 16 set.enc = record { long = search rules; small = c.of_bytes.ensures.small } in
-    let mac : Bytes 16 set.mac = record { long = search rules; small = c.of_bytes-2.ensures.small } in
+    let enc : Bytes 16 set.keys.enc = record { long = search rules; small = c.of_bytes.ensures.small } in
+    let mac : Bytes 16 set.keys.mac = record { long = search rules; small = c.of_bytes-2.ensures.small } in
     let host : Bytes 8 c.args.host.now = record { long = c.told-host; small = c.of_bytes-3.ensures.small } in
     let mid = c.begin.new.card in
     let next : Fit (view_of mid) = record { channel = mid.sized; contents = mid.contents.ok } in

@@ -1,6 +1,5 @@
 use Rattle.std.proofs.Common.{vec_items, arith}
-use Rattle.cipher.specs.Blocks.{algorithm}
-use Rattle.manager.specs.Cards.{view}
+use Rattle.card.specs.Cards.{view}
 use Rattle.terminal.specs.Sides.{side}
 use Rattle.runs.specs.Conversing.{blank}
 use Rattle.runs.specs.Turns.{exchanged}
@@ -10,14 +9,14 @@ use Rattle.runs.proofs.serve.send.Goals as goal
 
 pub slice_bounds-hand_in-end : goal.slice_bounds-hand_in-end
 slice_bounds-hand_in-end g c =
-    let cipher = algorithm g.C.Cipher.enc g.C.Cipher.dec g.C.Cipher.identifier in
+    let cipher = g.C.Cipher.algorithm in
     let side-of = side {C = g.row.C.Denot} in
     let h = wrap_within cipher (side-of c.args.terminal.now) (side-of c.wrap.new.self) c.args.command.now blank c.wrap.new.area c.in-Ok.n c.in-Ok.ensures in
     omega (arith, h)
 
 pub returns : goal.returns
 returns g c =
-    let cipher = algorithm g.C.Cipher.enc g.C.Cipher.dec g.C.Cipher.identifier in
+    let cipher = g.C.Cipher.algorithm in
     let view_of = view {C = g.row.C.Denot} g.S.Source.coming in
     let side-of = side {C = g.row.C.Denot} in
     record {

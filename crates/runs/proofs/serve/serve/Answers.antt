@@ -1,8 +1,8 @@
 use Rattle.std.proofs.Common.{◌≡◌, ℕ, List, ◌++◌, map, is_ok, vec_items, refl, ap, ◌∙◌, subst, arith, take_all, Bor}
 use Rattle.std.specs.Option.{option_map}
 use Rattle.std.proofs.ResultArms.{chosen}
-use Rattle.cipher.specs.Blocks.{algorithm, Undoes}
-use Rattle.manager.specs.Cards.{view}
+use Rattle.cipher.specs.Blocks.{Undoes}
+use Rattle.card.specs.Cards.{view}
 use Rattle.terminal.specs.Sides.{side}
 use Rattle.runs.specs.Sending.{bare_in, served_in, Answers}
 use Rattle.runs.proofs.Reaching.{noted_as, onward_start, sent_onward}
@@ -12,15 +12,15 @@ use Rattle.runs.proofs.serve.serve.Goals.{in-Some+in_ok-push, in_default}
 
 pub loop-command-init : goal.loop-command-init
 loop-command-init g c =
-    let cipher = algorithm g.C.Cipher.enc g.C.Cipher.dec g.C.Cipher.identifier in
+    let cipher = g.C.Cipher.algorithm in
     let view_of = view {C = g.row.C.Denot} g.S.Source.coming in
     let side-of = side {C = g.row.C.Denot} in
     (omega arith, answers_none cipher (view_of c.args.card.now) (side-of c.args.terminal.now) (map served_in (vec_items c.new-all.result)) (ap (map served_in) c.new-all.ensures.items), refl, onward_start cipher (view_of c.args.card.now) (map served_in (vec_items c.new-all.result)) (ap (map served_in) c.new-all.ensures.items))
 
 pub loop-command-preserved : goal.loop-command-preserved
 loop-command-preserved g c =
-    let cipher = algorithm g.C.Cipher.enc g.C.Cipher.dec g.C.Cipher.identifier in
-    let laws : Undoes g.C.Cipher.enc g.C.Cipher.dec = record { enciphered = g.met.C.Cipher.enciphered; undone = g.met.C.Cipher.undone } in
+    let cipher = g.C.Cipher.algorithm in
+    let laws : Undoes g.C.Cipher.algorithm.enc g.C.Cipher.algorithm.dec = record { enciphered = g.met.C.Cipher.enciphered; undone = g.met.C.Cipher.undone } in
     let view_of = view {C = g.row.C.Denot} g.S.Source.coming in
     let side-of = side {C = g.row.C.Denot} in
     let inv = c.loop-command.invariant in
@@ -38,7 +38,7 @@ loop-command-preserved g c =
 
 pub returns : goal.returns
 returns g c =
-    let cipher = algorithm g.C.Cipher.enc g.C.Cipher.dec g.C.Cipher.identifier in
+    let cipher = g.C.Cipher.algorithm in
     let view_of = view {C = g.row.C.Denot} g.S.Source.coming in
     let side-of = side {C = g.row.C.Denot} in
     let inv = c.loop-command.invariant in

@@ -1,9 +1,6 @@
 use Rattle.std.proofs.Common.{◌≤◌, length, refl, ◌∙◌, rules}
-use Rattle.script.proofs.Pairs.{behind_none, more, other, done, odd}
+use Rattle.script.proofs.Pairs.{more, other, done, odd}
 use Rattle.script.proofs.digits.pairs.Goals as goal
-
-pub loop-left-init : goal.loop-left-init
-loop-left-init c = search (rules, behind_none)
 
 pub returns-in_default-byte : goal.returns-in_default-byte
 returns-in_default-byte c = search (rules, other)

@@ -1,4 +1,4 @@
-use Rattle.std.proofs.Common.{◌≡◌, ℕ, List, map, reverse, ap, ◌∙◌, ap₂}
+use Rattle.std.proofs.Common.{◌≡◌, ℕ, List, [], get_or, map, reverse, ap, ◌∙◌, ap₂}
 use Rattle.bits.specs.Octets.{value}
 use Rattle.tripledes.specs.Des.{round_keys, des, undes}
 use Rattle.tripledes.specs.Round.{held}
@@ -9,8 +9,8 @@ use Rattle.tripledes.proofs.TripleDesCipher.expand.Goals as goal
 pub returns : goal.returns
 unfolding passes enciphering deciphering encipher decipher des undes k1 k2
 returns c =
-    let j : c.value_of.result ≡ k1 c.args.key.now = c.value_of.ensures ∙ ap value c.half.ensures in
-    let k : c.value_of-2.result ≡ k2 c.args.key.now = c.value_of-2.ensures ∙ ap value c.half-2.ensures in
+    let j : c.value_of.result ≡ k1 c.args.key.now = c.value_of.ensures ∙ ap (λ (l : List (List ℕ)). value (get_or l 0 [])) c.halves.ensures in
+    let k : c.value_of-2.result ≡ k2 c.args.key.now = c.value_of-2.ensures ∙ ap (λ (l : List (List ℕ)). value (get_or l 1 [])) c.halves.ensures in
     let f1 : map held c.expanded.result.forward ≡ round_keys (k1 c.args.key.now) = c.expanded.ensures.forward ∙ ap round_keys j in
     let b1 : map held c.expanded.result.backward ≡ reverse (round_keys (k1 c.args.key.now))
     = c.expanded.ensures.backward ∙ ap (λ (n : ℕ). reverse (round_keys n)) j in

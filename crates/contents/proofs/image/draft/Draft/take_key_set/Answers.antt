@@ -1,8 +1,31 @@
+use Rattle.std.proofs.Common.{refl, sym, ◌∙◌, arith}
+use Rattle.std.proofs.lemmas.Result.{err_from_is_err_and}
+use Rattle.answers.specs.declared.Refusal.TheVariants.{FieldValue}
 use Rattle.contents.specs.Draft.{drafted}
-use Rattle.contents.proofs.Takes.{key_set_taken}
+use Rattle.contents.proofs.Takes.{none_refused, pushed_on, key_set_refused, key_set_twice, key_set_taken}
 use Rattle.contents.proofs.image.draft.Draft.take_key_set.Goals as goal
+
+pub returns-in_err-set : goal.returns-in_err-set
+returns-in_err-set c =
+    let p = err_from_is_err_and c.from_residual-in_err-set.result c.from_residual-in_err-set.ensures.1 in
+    let n = none_refused c.key_set_in.result FieldValue c.in_err-set.field-0.0 c.in_err-set.ensures.value in
+    let s = rw c.in_ok-body.ensures.ok_part at c.split_first_chunk.ensures.cases in
+    let e = key_set_refused (drafted c.args.self.now) c.args.body.now c.in_ok-body.body.now (omega (arith, s.2)) s.0 (n.0 ∙ c.key_set_in.ensures) in
+    record { rest = rw (p.1, p.2, n.1, e) refl; draft = rw e refl }
+
+pub returns-then-has : goal.returns-then-has
+returns-then-has c =
+    let s = rw c.in_ok-body.ensures.ok_part at c.split_first_chunk.ensures.cases in
+    let e = key_set_twice (drafted c.args.self.now) c.args.body.now c.in_ok-body.body.now c.in_ok-set.set (omega (arith, s.2)) s.0 (sym c.in_ok-set.ensures.ok_part ∙ c.key_set_in.ensures) c.if-has.ensures in
+    record { rest = rw e refl; draft = rw e refl }
 
 pub returns : goal.returns
 returns c =
-    let t = key_set_taken (drafted c.args.self.now) c.args.body.now c.in-Some.set _ c.push.result c.if-body-lt49.false c.in-Some.ensures c.if-has_version.ensures c.push.ensures.taken c.push.ensures.list c.requires in
-    record { rest = t.0; draft = t.1 }
+    let h = drafted c.args.self.now in
+    let s = rw c.in_ok-body.ensures.ok_part at c.split_first_chunk.ensures.cases in
+    let e = key_set_taken h c.args.body.now c.in_ok-body.body.now c.in_ok-set.set (omega (arith, s.2)) s.0 (sym c.in_ok-set.ensures.ok_part ∙ c.key_set_in.ensures) c.if-has.ensures in
+    let m = pushed_on h.sets _ c.in_ok-set.set c.push.result 4 c.push.ensures.taken c.push.ensures.list c.requires in
+    record {
+      rest = rw (e, s.1) refl;
+      draft = rw (e, m) refl;
+    }

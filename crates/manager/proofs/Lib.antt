@@ -1,3 +1,0 @@
-mod Texts
-mod Handing
-mod Reading

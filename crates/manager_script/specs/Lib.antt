@@ -1,5 +1,0 @@
-pub mod Lines
-pub mod Digits
-pub mod Rows
-pub mod Turns
-pub mod Printed

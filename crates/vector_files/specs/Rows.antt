@@ -1,0 +1,42 @@
+-- A row of a vector file: a key of 32 digits, a blank, a plain block of 16 digits, a blank, and that block enciphered.
+use Rattle.std.specs.Prelude.{◌≡◌, ℕ, cond, List, length, take, drop, Some, None, Option, Result, Ok, Err, ◌==◌, slice_index, codes}
+use Rattle.std.specs.Result.{result_ok}
+use Rattle.cipher.specs.Blocks.{Direction}
+use Rattle.hex.specs.Hex.{decode_sized}
+use Rattle.vector_files.specs.declared.rows.Row.{Row}
+use Rattle.vector_files.specs.declared.rows.Fault.{Fault}
+use Rattle.vector_files.specs.declared.rows.Fault.TheVariants.{Differs, IllFormed}
+
+-- the n bytes of a text, if it is exactly their hexadecimal digits
+abbrev pub exactly : ℕ → List ℕ → Option (List ℕ)
+exactly n text = result_ok (decode_sized text n)
+
+abbrev pub joined : Option (List ℕ) → Option (List ℕ) → Option (List ℕ) → Option Row
+joined (Some key) (Some plain) (Some enciphered) = Some (record { key = key; plain = plain; enciphered = enciphered })
+joined (Some key) (Some plain) None = None
+joined (Some key) None enciphered = None
+joined None plain enciphered = None
+
+abbrev pub row_of : List ℕ → Option Row
+row_of line =
+    cond (length line == 66)
+    (cond (slice_index line 32 == 32)
+    (cond (slice_index line 49 == 32)
+    (joined (exactly 16 (take 32 line)) (exactly 8 (take 16 (drop 33 line))) (exactly 8 (take 16 (drop 50 line))))
+    None) None) None
+
+-- the cipher gives the row's enciphered block for its plain one, and its plain one for its enciphered one
+pub record Right (enc dec : Direction) (row : Row) : Type 0 where
+  pub enciphered : enc row.key row.plain ≡ row.enciphered
+  pub deciphered : dec row.key row.enciphered ≡ row.plain
+
+-- what is found of a line
+abbrev pub Found : Direction → Direction → List ℕ → Result Unit Fault → Type 0
+Found enc dec line (Ok _) = (row : Row) × (row_of line ≡ Some row) × Right enc dec row
+Found enc dec line (Err Differs) = (row : Row) × (row_of line ≡ Some row) × (Right enc dec row → ⊥)
+Found enc dec line (Err IllFormed) = row_of line ≡ None
+
+-- a fault in words
+abbrev pub fault_text : Fault → List ℕ
+fault_text Differs = codes "does not agree"
+fault_text IllFormed = codes "is no row of key, block and enciphered block"
