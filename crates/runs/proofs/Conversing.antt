@@ -131,11 +131,6 @@ carried_in cipher m n o u area k x is h =
     let Q : ℕ → Type 0 = λ i. HandedIn cipher m n (take i area) x in
     subst P is (x, refl, subst Q (sub-zero k) h)
 
-pub carried_out : (cipher : Algorithm) (m : Model) (o : Outcome) (u : Side) (area : List ℕ) (e : Refusal) → (Err e, u, area) ≡ o → Carried cipher m m o None
-carried_out cipher m o u area e is =
-    let P : Outcome → Type 0 = λ x. Carried cipher m m x None in
-    subst P is (refl, refl)
-
 -- the level by its value
 pub shown_at : (cipher : Algorithm) (t : Side) (answer : List ℕ) (v : ℕ) (level : Level) (o : Outcome) → v ≡ level_value level → o ≡ terminal.authenticates cipher t answer v blank → o ≡ showing cipher t answer level
 shown_at cipher t answer v level o is told = told ∙ ap (λ (x : ℕ). terminal.authenticates cipher t answer x blank) is
@@ -234,10 +229,3 @@ began cipher m n t u host before area k x eight room is h =
     let cut : take (k - 0) area ≡ cmd = ap (λ (i : ℕ). take i area) (sub-zero k) ∙ ap (take k) wrote ∙ take_at cmd (drop (length cmd) before) k (sym count) in
     let P : List ℕ → Type 0 = λ b. HandedIn cipher m n b x in
     record { terminal = ap (λ (o : Outcome). o.1) out; handed = subst P cut h }
-
--- the last two bytes
-pub tail_9000 : (a : List ℕ) (at : ℕ) (r : Bool) → at ≡ length a - 2 → r ≡ bytes_eq (take (length a - at) (drop at a)) (0x90 ∷ 0x00 ∷ []) → r ≡ is9000 a
-tail_9000 a at r is e =
-    let rest : List ℕ → Bool = λ xs. bytes_eq xs (0x90 ∷ 0x00 ∷ []) in
-    let long : length (drop at a) ≤ length a - at = simp length-drop (omega arith) in
-    e ∙ ap rest (take_all (length a - at) (drop at a) long) ∙ ap (λ (n : ℕ). rest (drop n a)) is

@@ -43,10 +43,6 @@ never_cramped cipher m n cmd before work area worked e room space p =
     let z : ◌≡◌ {A = ℕ} 0 1 = cc in
     omega arith
 
--- a command that was handed in, from its parts
-pub handed_in : (cipher : Algorithm) (m n : Model) (cmd given area said : List ℕ) (k : ℕ) → Handed cipher m n cmd area k → Fit n → given ≡ cmd → said ≡ take (k - 0) area → HandedIn cipher m n cmd (given, said)
-handed_in cipher m n cmd given area said k h fit g s = record { command = g; answer = s ∙ h.answer; model = h.model; fit = fit }
-
 -- it is a turn
 pub handed_turned : (cipher : Algorithm) (m n : Model) (cmd : List ℕ) (x : Pair) → HandedIn cipher m n cmd x → Turned cipher m n (command cmd) (event_of x)
 handed_turned cipher m n cmd x h = record {

@@ -25,11 +25,11 @@ use Rattle.runs.specs.Conversing.{Welcome, opening_in, opening_events, is_answer
 use Rattle.runs.specs.Events.{Event, Input, input_of, is9000}
 use Rattle.runs.specs.Laws.{is_plain}
 use Rattle.runs.specs.Plain.{challenge_in}
-use Rattle.runs.specs.Runs.{Ran}
+use Rattle.runs.specs.Runs.{Ran, Onward}
 use Rattle.runs.specs.Sending.{bare_in, served_in, sending_event, sent_of}
 use Rattle.runs.specs.Serving.{HasSet, Sending, Serves, cryptogram_to, code_to, updates_answered}
 use Rattle.runs.specs.Told.{Told}
-use Rattle.runs.specs.Turns.{Pair}
+use Rattle.runs.specs.Turns.{Pair, Played}
 
 -- a refusal has its own number, and want of memory, which is no refusal, 0
 abbrev pub trouble_number : Trouble → ℕ
@@ -69,6 +69,14 @@ pub record Channelled (cipher : Algorithm) (m n : Model) (talk : Talk) (said : S
 abbrev pub Conversed : Algorithm → Model → Model → Side → Talk → Said → Type 0
 Conversed cipher m n t talk said =
     (drawn : List ℕ) (rest : Challenges) → HasSet t talk.set → Welcome m talk.set drawn rest talk.level → Channelled cipher m n talk said
+
+-- Turns handed in to a card, and then the conversation; `mid` is the card between the two.
+pub record Went (cipher : Algorithm) (m n : Model) (t : Side) (handed : List Input) (talk : Talk) (events : List Event) (said : Said) : Type 0 where
+  pub mid : Model
+  pub played : Played cipher m mid handed events
+  pub conversed : Conversed cipher mid n t talk said
+  pub onward : Onward cipher mid (said_events said) n
+  pub channelled : is_some said.served ≡ is_answered said.opening.1
 
 -- Turns handed in to a card that held `start`, and then the channel. `played` is the card between the two.
 pub record Run (cipher : Algorithm) (start : Held) (coming : Challenges) (n : Model) (handed : List Input) (talk : Talk) (events : List Event) (said : Said) : Type 0 where

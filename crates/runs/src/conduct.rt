@@ -3,7 +3,7 @@ ghost use Rattle.std.specs.Prelude.{◌≡◌, true, map, is_some, IfOk, MatchRe
 ghost use Rattle.card.specs.Cards.{view};
 ghost use Rattle.terminal.specs.Sides.{side};
 ghost use Rattle.runs.specs.declared.conduct.Trouble.TheVariants.{Refused};
-ghost use Rattle.runs.specs.Conducting.{trouble_number, said_in, said_events, Conversed, Conducted, Troubled};
+ghost use Rattle.runs.specs.Conducting.{trouble_number, said_in, said_events, Conversed, Went, Conducted, Troubled};
 ghost use Rattle.runs.specs.Conversing.{is_answered};
 ghost use Rattle.runs.specs.Runs.{Onward};
 ghost use Rattle.runs.specs.Turns.{input_in, event_in};
@@ -111,6 +111,22 @@ fn converse<C: Cipher, S: Source>(
     })
 }
 
+// Hands in the turns, and then has the terminal open a channel and send its bare commands.
+fn play_and_converse<C: Cipher, S: Source>(
+    heap: Global,
+    card: &mut Card<C, S, Management>,
+    terminal: &mut Terminal<C>,
+    turns: &[Turn],
+    talk: &Talk,
+) -> Result<(Vec<Outcome>, Conversation), AllocError>
+    ensures went { IfOk result (λ r. Went C.algorithm (view S.Source.coming card.old) (view S.Source.coming card.new) (side terminal.old) (map input_in turns.now) talk.now (map event_in r.0.items) (said_in r.1)) }
+    ensures whole { S.Source.whole card.new.source ≡ S.Source.whole card.old.source }
+{
+    let outcomes = play(heap, card, turns)?;
+    let conversation = converse(heap, card, terminal, talk)?;
+    Ok((outcomes, conversation))
+}
+
 // Makes a card of the image and a terminal of the key set, hands in the turns, and has the terminal open a channel and send its
 // bare commands in it. A failure gives the source back: as it was, where the image or the key set is refused.
 pub fn conduct<C: Cipher, S: Source>(
@@ -135,23 +151,17 @@ pub fn conduct<C: Cipher, S: Source>(
             });
         }
     };
-    let Ok(outcomes) = play(heap, &mut card, turns) else {
-        return Err(Failure {
+    match play_and_converse(heap, &mut card, &mut terminal, turns, talk) {
+        Ok((turns, conversation)) => Ok(Report {
+            card,
+            turns,
+            conversation,
+        }),
+        Err(AllocError) => Err(Failure {
             trouble: Trouble::OutOfMemory,
             source: card.end(),
-        });
-    };
-    let Ok(conversation) = converse(heap, &mut card, &mut terminal, talk) else {
-        return Err(Failure {
-            trouble: Trouble::OutOfMemory,
-            source: card.end(),
-        });
-    };
-    Ok(Report {
-        card,
-        turns: outcomes,
-        conversation,
-    })
+        }),
+    }
 }
 
 // The worked examples hold. The call itself always answers true.

@@ -1,14 +1,13 @@
-use Rattle.std.proofs.Common.{◌≡◌, true, false, map, vec_items, sym, ◌∙◌, rules}
+use Rattle.std.proofs.Common.{◌≡◌, true, false, map, vec_items, rules}
 use Rattle.card.specs.Cards.{view}
 use Rattle.terminal.specs.Sides.{side}
-use Rattle.runs.specs.Conversing.{opening_in, opening_events}
-use Rattle.runs.specs.Sending.{served_in, sending_event}
-use Rattle.runs.proofs.Reaching.{onward_then, onward_some}
+use Rattle.runs.specs.Conversing.{opening_in}
+use Rattle.runs.specs.Sending.{served_in}
 use Rattle.runs.proofs.Conducting.{conversed, not_conversed}
 use Rattle.runs.proofs.conduct.converse.Goals as goal
 
-pub returns : goal.returns
-returns g c =
+pub returns-clause-conversed : goal.returns-clause-conversed
+returns-clause-conversed g c =
     let cipher = g.C.Cipher.algorithm in
     let view_of = view {C = g.row.C.Denot} g.S.Source.coming in
     let side-of = side {C = g.row.C.Denot} in
@@ -18,15 +17,10 @@ returns g c =
     let mid = view_of c.open_channel.new.card in
     let last = view_of c.serve.new.card in
     let yes' : c.is_open.result ≡ true = search rules in
-    record {
-      conversed = conversed cipher before mid last (side-of c.args.terminal.now) (side-of c.open_channel.new.terminal) (side-of c.serve.new.terminal) c.args.talk.now o sendings c.in_ok-opening.ensures.opened c.in_ok-served.ensures.answers;
-      channelled = sym yes' ∙ c.is_open.ensures;
-      onward = onward_then cipher before mid last (opening_events o) (map sending_event sendings) c.in_ok-opening.ensures.onward c.in_ok-served.ensures.onward;
-      whole = c.in_ok-served.ensures.whole ∙ c.in_ok-opening.ensures.whole;
-    }
+    conversed cipher before mid last (side-of c.args.terminal.now) (side-of c.open_channel.new.terminal) (side-of c.serve.new.terminal) c.args.talk.now o sendings c.in_ok-opening.ensures.opened c.in_ok-served.ensures.answers
 
-pub returns-then-not-is_open : goal.returns-then-not-is_open
-returns-then-not-is_open g c =
+pub returns-then-not-is_open-clause-conversed : goal.returns-then-not-is_open-clause-conversed
+returns-then-not-is_open-clause-conversed g c =
     let cipher = g.C.Cipher.algorithm in
     let view_of = view {C = g.row.C.Denot} g.S.Source.coming in
     let side-of = side {C = g.row.C.Denot} in
@@ -34,9 +28,4 @@ returns-then-not-is_open g c =
     let before = view_of c.args.card.now in
     let mid = view_of c.open_channel.new.card in
     let no' : c.is_open.result ≡ false = search rules in
-    record {
-      conversed = not_conversed cipher before mid (side-of c.args.terminal.now) (side-of c.open_channel.new.terminal) c.args.talk.now o c.is_open.result c.is_open.ensures no' c.in_ok-opening.ensures.opened;
-      channelled = sym no' ∙ c.is_open.ensures;
-      onward = onward_some cipher before mid (opening_events o) c.in_ok-opening.ensures.onward;
-      whole = c.in_ok-opening.ensures.whole;
-    }
+    not_conversed cipher before mid (side-of c.args.terminal.now) (side-of c.open_channel.new.terminal) c.args.talk.now o c.is_open.result c.is_open.ensures no' c.in_ok-opening.ensures.opened

@@ -1,4 +1,4 @@
-use Rattle.std.proofs.Common.{◌≡◌, Ok, ap, arith}
+use Rattle.std.proofs.Common.{◌≡◌, Ok, arith}
 use Rattle.card.specs.Cards.{view}
 use Rattle.terminal.specs.Sides.{side, Outcome}
 use Rattle.runs.specs.Conversing.{blank, showing}
@@ -13,16 +13,12 @@ slice_bounds-hand_in-end g c =
     let h = authenticate_within cipher (side-of c.args.terminal.now) (side-of c.authenticate.new.self) c.args.answer.now blank c.authenticate.new.area c.from.result c.in-Ok.n c.in-Ok.ensures in
     omega (arith, h)
 
-pub returns : goal.returns
-returns g c =
+pub returns-clause-carried : goal.returns-clause-carried
+returns-clause-carried g c =
     let cipher = g.C.Cipher.algorithm in
     let view_of = view {C = g.row.C.Denot} g.S.Source.coming in
     let side-of = side {C = g.row.C.Denot} in
     let t = side-of c.args.terminal.now in
     let u = side-of c.authenticate.new.self in
     let told : ◌≡◌ {A = Outcome} (Ok c.in-Ok.n, u, c.authenticate.new.area) (showing cipher t c.args.answer.now c.args.level) = shown_at cipher t c.args.answer.now c.from.result c.args.level (Ok c.in-Ok.n, u, c.authenticate.new.area) c.from.ensures c.in-Ok.ensures in
-    record {
-      carried = carried_in cipher (view_of c.args.card.now) (view_of c.hand_in.new.card) (showing cipher t c.args.answer.now c.args.level) u c.authenticate.new.area c.in-Ok.n (exchanged c.in_ok-exchange.exchange) told c.in_ok-exchange.ensures.handed;
-      terminal = ap (λ (o : Outcome). o.1) told;
-      whole = c.in_ok-exchange.ensures.whole;
-    }
+    carried_in cipher (view_of c.args.card.now) (view_of c.hand_in.new.card) (showing cipher t c.args.answer.now c.args.level) u c.authenticate.new.area c.in-Ok.n (exchanged c.in_ok-exchange.exchange) told c.in_ok-exchange.ensures.handed

@@ -1,22 +1,11 @@
 use Rattle.std.proofs.Common.{◌≤◌, length, replicate, lit≤, rules}
 use Rattle.card.specs.Cards.{view}
-use Rattle.runs.proofs.Turning.{handed, never_cramped}
+use Rattle.runs.proofs.Turning.{handed}
 use Rattle.runs.proofs.play.ask.Goals as goal
 
-pub returns : goal.returns
-returns g c =
+pub returns-clause-handed : goal.returns-clause-handed
+returns-clause-handed g c =
     let cipher = g.C.Cipher.algorithm in
     let view_of = view {C = g.row.C.Denot} g.S.Source.coming in
     let room : 258 ≤ length c.args.answer.now = search rules in
-    record {
-      handed = handed cipher (view_of c.args.card.now) (view_of c.process.new.self) c.args.bytes.now c.args.answer.now (replicate 256 0) c.process.new.answer c.process.new.work c.in-Ok.n room (lit≤ tt) c.in-Ok.ensures.processed;
-      fit = c.in-Ok.ensures.fit;
-      whole = c.in-Ok.ensures.whole;
-    }
-
-pub unreachable-requires : goal.unreachable-requires
-unreachable-requires g c =
-    let cipher = g.C.Cipher.algorithm in
-    let view_of = view {C = g.row.C.Denot} g.S.Source.coming in
-    let room : 258 ≤ length c.args.answer.now = search rules in
-    never_cramped cipher (view_of c.args.card.now) (view_of c.process.new.self) c.args.bytes.now c.args.answer.now (replicate 256 0) c.process.new.answer c.process.new.work c.in-Err.field-0 room (lit≤ tt) c.in-Err.ensures.processed
+    handed cipher (view_of c.args.card.now) (view_of c.process.new.self) c.args.bytes.now c.args.answer.now (replicate 256 0) c.process.new.answer c.process.new.work c.in-Ok.n room (lit≤ tt) c.in-Ok.ensures.processed

@@ -1,8 +1,8 @@
-use Rattle.std.proofs.Common.{map, is_ok, vec_items, refl, ap, ◌∙◌, arith, take_all}
+use Rattle.std.proofs.Common.{map, is_ok, vec_items, refl, ap, ◌∙◌, arith}
 use Rattle.std.proofs.ResultArms.{chosen}
 use Rattle.std.proofs.lemmas.List.{map_push}
 use Rattle.runs.specs.declared.turns.Turn.TheVariants as turn
-use Rattle.runs.specs.Turns.{input_in, event_in}
+use Rattle.runs.specs.Turns.{event_in}
 use Rattle.runs.proofs.Turning.{played_none, played_more}
 use Rattle.runs.proofs.play.play.Goals as goal
 
@@ -17,9 +17,3 @@ loop-turn-preserved g c =
     let inv = c.loop-turn.invariant in
     let more = ap (map event_in) pushed ∙ map_push event_in (vec_items c.loop-turn.outcomes) c.in_ok-outcome.outcome in
     (omega arith, played_more _ _ _ _ _ _ _ c.args.turns.now c.loop-turn.turn-index turn.Reset inv.1 c.in_ok-outcome.ensures.turned c.loop-turn-test.true more, c.in_ok-outcome.ensures.whole ∙ inv.2)
-
-pub returns : goal.returns
-returns g c =
-    let inv = c.loop-turn.invariant in
-    let all = take_all c.loop-turn.turn-index c.args.turns.now c.loop-turn-test.false in
-    record { played = record { ran = inv.1.ran; inputs = inv.1.inputs ∙ ap (map input_in) all }; whole = inv.2 }

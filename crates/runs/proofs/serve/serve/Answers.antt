@@ -36,12 +36,12 @@ loop-command-preserved g c =
     ] in
     (omega arith, answers_step cipher laws (view_of c.args.card.now) (view_of c.loop-command.card) (view_of c.send.new.card) (side-of c.args.terminal.now) (side-of c.loop-command.terminal) (side-of c.send.new.terminal) c.args.commands.now c.loop-command.command-index _ pairs all noted inv.1 c.in_ok-served.ensures.sent c.in_ok-served.ensures.bytes.small c.loop-command-test.true more, c.in_ok-served.ensures.whole ∙ inv.2, sent_onward cipher (view_of c.args.card.now) (view_of c.loop-command.card) (view_of last) (side-of c.loop-command.terminal) (side-of c.send.new.terminal) _ pairs all noted inv.3 (record { channel = last.sized; contents = last.contents.ok }) c.in_ok-served.ensures.sent more)
 
-pub returns : goal.returns
-returns g c =
+pub returns-clause-answers : goal.returns-clause-answers
+returns-clause-answers g c =
     let cipher = g.C.Cipher.algorithm in
     let view_of = view {C = g.row.C.Denot} g.S.Source.coming in
     let side-of = side {C = g.row.C.Denot} in
     let inv = c.loop-command.invariant in
     let all = take_all c.loop-command.command-index c.args.commands.now c.loop-command-test.false in
     let P : List (Bor (List ℕ)) → Type 0 = λ x. Answers cipher (view_of c.args.card.now) (side-of c.args.terminal.now) (view_of c.loop-command.card) (side-of c.loop-command.terminal) (bare_in x) (map served_in (vec_items c.loop-command.all)) in
-    record { answers = subst P all inv.1; onward = inv.3; whole = inv.2 }
+    subst P all inv.1
