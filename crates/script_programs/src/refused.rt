@@ -1,5 +1,6 @@
 // Why a program prints no row.
 ghost use Rattle.std.specs.Prelude.{◌≡◌};
+ghost use Rattle.script_programs.specs.Refusing.{refused_text};
 ghost use Rattle.script_programs.specs.declared.refused.Refused.TheVariants.{Memory};
 
 use crate::command_line::Misuse;
@@ -26,6 +27,8 @@ impl From<AllocError> for Refused {
 }
 
 impl fmt::Display for Refused {
+    ghost output = { refused_text };
+
     fn fmt<W: fmt::Write>(&self, f: &mut fmt::Formatter<W>) -> fmt::Result {
         match self {
             Refused::Arguments => write!(f, "the arguments cannot be read"),
