@@ -1,8 +1,8 @@
 -- A terminal that has one of a card's key sets opens a channel with it.
-use Rattle.std.proofs.Common.{◌≡◌, ℕ, ◌+◌, ◌-◌, ◌<◌, ◌≤◌, Bool, true, false, cond, ◌&&◌, eqb, ltb, List, [], ◌∷◌, ◌++◌, length, get_or, take, drop, Some, None, Ok, Err, Option, Result, sym, refl, ap, ◌∙◌, subst, arith, lit≤, length-drop}
+use Rattle.std.proofs.Common.{◌≡◌, ℕ, ◌+◌, ◌-◌, ◌<◌, ◌≤◌, true, false, cond, ◌&&◌, eqb, ltb, List, ◌++◌, length, get_or, take, drop, Some, None, Ok, Err, Option, Result, sym, refl, ap, ◌∙◌, subst, lit≤}
 use native.Mathlib.Nat.{sub-zero}
 use Rattle.std.specs.Str.{bytes_eq}
-use Rattle.std.proofs.lemmas.List.{take_at, take_all, get_or-drop}
+use Rattle.std.proofs.lemmas.List.{take_at, get_or-drop}
 use Rattle.std.proofs.lemmas.Bool.{and_parts, eqb-true}
 use Rattle.answers.specs.declared.Refusal.{Refusal}
 use Rattle.answers.specs.declared.Refusal.TheVariants.{AreaTooShort, WrongCryptogram}
@@ -33,7 +33,6 @@ use Rattle.terminal.specs.declared.Phase.TheVariants as phase
 use Rattle.terminal.specs.Sides as terminal
 use Rattle.terminal.specs.Sides.{Side, Outcome, in_phase, sends, update_command, authenticate_command}
 use Rattle.runs.specs.Conversing.{Welcome, Opens, Began, Carried, blank, showing}
-use Rattle.runs.specs.Events.{is9000}
 use Rattle.runs.specs.Serving.{HasSet, challenged, cryptogram_to, code_to, session_to}
 use Rattle.runs.specs.Turns.{Pair, HandedIn}
 use Rattle.runs.proofs.Following.{ten_bytes}

@@ -63,10 +63,8 @@ fn begin<C: Cipher, S: Source>(
     ensures whole { S.Source.whole card.new.source ≡ S.Source.whole card.old.source }
 {
     let mut area = [0; 261];
-    match terminal.begin(host, &mut area) {
-        Ok(n) => hand_in(heap, card, &area[0..n]),
-        Err(_) => unreachable(),
-    }
+    let n = terminal.begin(host, &mut area).unwrap();
+    hand_in(heap, card, &area[0..n])
 }
 
 // EXTERNAL AUTHENTICATE at a level, upon the card's answer to INITIALIZE UPDATE; nothing is handed in where the terminal refuses

@@ -22,10 +22,7 @@ fn ask<C: Cipher, S: Source>(
     ensures whole { S.Source.whole card.new.source ≡ S.Source.whole card.old.source }
 {
     let mut work = [0; 256];
-    match card.process(bytes, answer, &mut work) {
-        Ok(n) => n,
-        Err(_) => unreachable(),
-    }
+    card.process(bytes, answer, &mut work).unwrap()
 }
 
 // Hands in a command, with areas of its own.
