@@ -1,2 +1,3 @@
 mod Handing
 mod Reading
+mod Texts

@@ -12,12 +12,6 @@ use contents::Contents;
 use contents::life::{CardState, EntryKind};
 use contents::records::{Entry, is_card_manager};
 
-// 6F, then 84 with the card manager's AID, and A5 with 9F65 and FF.
-const MANAGER: [u8; 18] = [
-    0x6F, 0x10, 0x84, 0x08, 0xA0, 0x00, 0x00, 0x00, 0x03, 0x00, 0x00, 0x00, 0xA5, 0x04, 0x9F, 0x65,
-    0x01, 0xFF,
-];
-
 // A locked card warns.
 fn manager_status(state: CardState) -> StatusWord
     ensures { result ≡ manager_status state }
@@ -50,7 +44,7 @@ pub(crate) fn select(contents: &Contents, command: Command) -> Result<Answer, St
         return Err(StatusWord::WrongLength);
     }
     if is_card_manager(name) {
-        return Ok(Answer::new(&MANAGER, manager_status(contents.state())));
+        return Ok(Answer::Manager(manager_status(contents.state())));
     }
     Err(found_status(contents.entry(name)))
 }

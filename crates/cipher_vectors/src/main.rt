@@ -2,7 +2,7 @@
 #![tactic(auto)]
 
 use present::Present;
-use std::io;
+use std::{env, fs, io};
 use tripledes::TripleDes;
 use vector_files::{no_cipher, run, run_all};
 use xtea::Xtea;
@@ -10,13 +10,15 @@ use xtea::Xtea;
 // The cipher that a file is for goes by the file's name.
 fn run_named(rt: &HostRuntime, name: &str) -> io::Result<bool> {
     match name {
-        "tripledes.txt" => run::<TripleDes>(rt, name),
-        "present128.txt" | "present128_more.txt" => run::<Present>(rt, name),
-        "xtea.txt" => run::<Xtea>(rt, name),
+        "tripledes.txt" => run::<TripleDes>(rt, name, fs::read_to_string(rt, name)),
+        "present128.txt" | "present128_more.txt" => {
+            run::<Present>(rt, name, fs::read_to_string(rt, name))
+        }
+        "xtea.txt" => run::<Xtea>(rt, name, fs::read_to_string(rt, name)),
         _ => no_cipher(rt, name),
     }
 }
 
 fn main(rt: HostRuntime) -> anyhow::Result<()> {
-    run_all(&rt, run_named)
+    run_all(&rt, env::args(&rt)?, run_named)
 }

@@ -1,5 +1,5 @@
 // Key sets and registry entries, and the tables that hold them.
-ghost use Rattle.std.specs.Prelude.{◌≡◌, ◌<◌, ◌≤◌, [], ◌∷◌, ◌++◌, length, is_some, if◌then◌else◌};
+ghost use Rattle.std.specs.Prelude.{◌≡◌, ◌+◌, ◌<◌, ◌≤◌, [], ◌∷◌, ◌++◌, length, is_some, if◌then◌else◌};
 ghost use Rattle.std.specs.List.{remove};
 ghost use Rattle.std.specs.Str.{bytes_eq};
 ghost use Rattle.contents.specs.Records.{aid_bytes, card_manager, bears, has_version, listed, entry_named};
@@ -138,7 +138,8 @@ impl Registry {
     // Puts the entry at a place into a state; the other entries stay as they are.
     fn set_state(&mut self, at: usize, state: EntryState)
         requires { at < length (listed self.old) }
-        ensures { listed self.new ≡ state_set (listed self.old) at state }
+        ensures list { listed self.new ≡ state_set (listed self.old) at state }
+        ensures count { self.new.count ≡ self.old.count }
     {
         let entry = &mut self.records[at];
         entry.state = state;
@@ -149,6 +150,7 @@ impl Registry {
     pub(crate) fn set_application_state(&mut self, name: &[u8], state: EntryState) -> bool
         ensures taken { result ≡ takes_state state (entry_named name.now (listed self.old)) }
         ensures list { listed self.new ≡ (if result then state_set_named name.now state (listed self.old) else listed self.old) }
+        ensures count { self.new.count ≡ self.old.count }
     {
         let Some(at) = self.find(name) else {
             return false;
@@ -165,6 +167,7 @@ impl Registry {
     pub(crate) fn add_application(&mut self, name: &[u8], state: EntryState, privileges: u8) -> bool
         ensures taken { result ≡ admits name.now state (listed self.old) }
         ensures list { listed self.new ≡ (if result then listed self.old ++ new_application name.now state privileges ∷ [] else listed self.old) }
+        ensures counted { self.old.count ≤ 12 → self.new.count ≤ 12 }
     {
         if !(5..=16).contains(&name.len()) || is_card_manager(name) {
             return false;
@@ -183,7 +186,8 @@ impl Registry {
     // Takes out the entry at a place, and closes the gap.
     fn remove(&mut self, at: usize)
         requires { at < length (listed self.old) }
-        ensures { listed self.new ≡ remove (listed self.old) at }
+        ensures list { listed self.new ≡ remove (listed self.old) at }
+        ensures count { self.old.count ≤ 12 → self.new.count + 1 ≡ self.old.count }
     {
         let used = self.listed().len();
         self.records.copy_within(at + 1..used, at);
@@ -194,6 +198,7 @@ impl Registry {
     pub(crate) fn remove_named(&mut self, name: &[u8]) -> bool
         ensures found { result ≡ is_some (first_of (bears name.now) (listed self.old)) }
         ensures list { listed self.new ≡ without_named name.now (listed self.old) }
+        ensures counted { self.old.count ≤ 12 → self.new.count ≤ 12 }
     {
         let Some(at) = self.find(name) else {
             return false;
@@ -209,6 +214,7 @@ impl KeySets {
     pub(crate) fn add(&mut self, set: KeySet) -> bool
         ensures taken { result ≡ admits_set set.version (listed self.old) }
         ensures list { listed self.new ≡ (if result then listed self.old ++ set ∷ [] else listed self.old) }
+        ensures counted { self.old.count ≤ 4 → self.new.count ≤ 4 }
     {
         is_version(set.version) && !self.has(set.version) && self.push(set)
     }
@@ -218,6 +224,7 @@ impl KeySets {
     pub(crate) fn replace(&mut self, version: u8, set: KeySet) -> bool
         ensures taken { result ≡ replaces_set version set.version (listed self.old) }
         ensures list { listed self.new ≡ (if result then replaced_named version set (listed self.old) else listed self.old) }
+        ensures count { self.new.count ≡ self.old.count }
     {
         if !is_version(set.version) {
             return false;

@@ -1,5 +1,5 @@
 // Tables of records that are found by a name.
-ghost use Rattle.std.specs.Prelude.{◌≡◌, ◌<◌, min, [], ◌∷◌, ◌++◌, length, IfSome, if◌then◌else◌, nat_lt, slice_index_or};
+ghost use Rattle.std.specs.Prelude.{◌≡◌, ◌<◌, ◌≤◌, min, [], ◌∷◌, ◌++◌, length, IfSome, if◌then◌else◌, nat_lt, slice_index_or};
 ghost use Rattle.std.specs.Option.{option_map};
 ghost use Rattle.contents.specs.Held.{any};
 ghost use Rattle.contents.specs.Records.{listed};
@@ -17,7 +17,8 @@ pub struct Table<R, const N: usize> {
 impl<R: Copy, const N: usize> Table<R, N> {
     // A table without records, where `unused` stands at each place.
     pub(crate) fn empty(unused: R) -> Table<R, N>
-        ensures { listed result ≡ [] }
+        ensures list { listed result ≡ [] }
+        ensures count { result.count ≡ 0 }
     {
         Table {
             records: [unused; N],
@@ -37,6 +38,7 @@ impl<R: Copy, const N: usize> Table<R, N> {
     pub(crate) fn push(&mut self, item: R) -> bool
         ensures taken { result ≡ nat_lt (length (listed self.old)) N }
         ensures list { listed self.new ≡ (if result then listed self.old ++ item ∷ [] else listed self.old) }
+        ensures counted { self.old.count ≤ N → self.new.count ≤ N }
     {
         let used = self.listed().len();
         if used >= N {

@@ -6,10 +6,11 @@ use apdu::Management;
 use present::Present;
 use script::run;
 use script_programs::play_all;
+use std::env;
 use tripledes::TripleDes;
 
 fn main(rt: HostRuntime) -> anyhow::Result<()> {
-    play_all(&rt, |name, script| {
+    play_all(&rt, env::args(&rt)?, |name, script| {
         if name.starts_with("present_") {
             run::<Present, Management>(rt.alloc(), script)
         } else {

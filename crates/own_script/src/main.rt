@@ -5,14 +5,14 @@
 mod scene;
 
 use challenge::recorded::Recorded;
-use hex::ToHex;
+use hex_text::Hex;
 use runs::conduct::{Conversation, Talk, conduct};
 use scp01::Level;
 use std::io;
 use xtea::Xtea;
 
 fn print_line(rt: &HostRuntime, bytes: &[u8]) -> io::Result<()> {
-    let line = bytes.encode_hex_upper(rt.alloc())?;
+    let line = Hex { bytes };
     println!(rt; "{line}")
 }
 

@@ -21,7 +21,7 @@ use cipher::Cipher;
 use contents::Contents;
 
 // The data of an answer with 9000.
-#[derive(Drop)]
+#[derive(Clone, Copy)]
 pub enum Receipt {
     Nothing,
     Listed(Listing),

@@ -1,5 +1,7 @@
+pub mod Bodies
 pub mod Calls
 pub mod Examples
 pub mod Reading
 pub mod Sending
 pub mod Understanding
+pub mod Writing

@@ -1,16 +1,20 @@
 -- Commands inside a channel, as a terminal wraps them.
-use Rattle.std.specs.Prelude.{◌≡◌, ℕ, Bool, cond, ◌&&◌, ◌||◌, List, [], ◌∷◌, ◌++◌, length, Some, None, Option, ◌==◌, nat_le, nat_lt}
-use Rattle.answers.specs.Areas.{fronted}
+use Rattle.std.specs.Prelude.{◌≡◌, ℕ, ◌+◌, Bool, cond, ◌&&◌, ◌||◌, List, [], ◌∷◌, ◌++◌, length, Some, None, Option, ◌==◌, nat_le, nat_lt}
+use Rattle.answers.specs.Areas.{written, fronted}
 use Rattle.apdu.specs.Apdu.{Apdu}
 use Rattle.cipher.specs.Blocks.{Algorithm, Direction, zeros}
 use Rattle.cipher.specs.Cbc.{cbc_enciphered}
 use Rattle.scp01.specs.declared.Level.{Level}
 use Rattle.scp01.specs.declared.Level.TheVariants.{Plain, Mac, MacEncrypted}
 use Rattle.scp01.specs.declared.Session.{Session}
-use Rattle.scp01.specs.declared.wrapping.Sent.{Sent}
 use Rattle.scp01.specs.declared.wrapping.Wrapped.{Wrapped}
 use Rattle.scp01.specs.Inside.{body_text}
 use Rattle.scp01.specs.Session.{command_code}
+
+-- bytes stand in the area from `at` on, and nothing else changed; n is the place behind them
+pub record PutAt (before after : List ℕ) (at n : ℕ) (bytes : List ℕ) : Type 0 where
+  pub area : after ≡ written before at bytes
+  pub end : n ≡ at + length bytes
 
 -- n bytes stand at the front of the area, and nothing else changed
 pub record PutInFront (before after : List ℕ) (n : ℕ) (bytes : List ℕ) : Type 0 where
@@ -88,10 +92,6 @@ into_area area (Some w) = (Some (length w.0, w.1), fronted area w.0)
 
 abbrev pub wrapped_into : List ℕ → Option (List ℕ × List ℕ) → Option (ℕ × List ℕ) × List ℕ
 wrapped_into area w = cond (nat_lt (length area) 261) (None, area) (into_area area w)
-
--- the bytes to send and the chaining value after them
-abbrev pub to_send : Sent → List ℕ × List ℕ
-to_send s = (s.bytes.items, s.chain)
 
 -- the length and the chaining value that a call answers
 abbrev pub length_and_chain : Wrapped → ℕ × List ℕ

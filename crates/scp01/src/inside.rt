@@ -1,8 +1,9 @@
 // Commands inside a channel, as a card reads them.
-ghost use Rattle.std.specs.Prelude.{◌≡◌, ◌<◌, ◌≤◌, length, IfSome};
+ghost use Rattle.std.specs.Prelude.{◌≡◌, ◌<◌, ◌≤◌, true, length, IfSome, slice_index};
 ghost use Rattle.std.specs.Option.{option_map};
+ghost use Rattle.std.specs.Str.{bytes_eq};
 ghost use Rattle.apdu.specs.Apdu.{meaning};
-ghost use Rattle.scp01.specs.Inside.{closing, body_text, body_of, text_in, deciphered_into, body_at, right_code, chain_after, takes_class, unwrapped_from, answered, placed};
+ghost use Rattle.scp01.specs.Inside.{closing, body_text, said, body_of, text_in, deciphered_into, body_at, right_code, chain_after, takes_class, unwrapped_from, answered, placed};
 
 use crate::{Level, Session};
 use apdu::Command;
@@ -47,17 +48,26 @@ pub(crate) fn body_text(body: &[u8]) -> ArrayVec<u8, 240>
     text
 }
 
+// Whether a text is that of the bytes behind its first, as many as that says.
+fn is_text(text: &[u8]) -> bool
+    requires { 0 < length text.now }
+    ensures text { result ≡ bytes_eq text.now (body_text (said text.now)) }
+    ensures long { result ≡ true → slice_index text.now 0 < length text.now }
+{
+    let end = text[0] as usize + 1;
+    end <= text.len() && &text[end..] == closing(end)
+}
+
 // The body that a text says: one to 239 bytes, where the text is just theirs.
 fn body_of(text: &[u8]) -> Option<&[u8]>
     requires { 0 < length text.now }
     ensures { option_map (λ b. b.now) result ≡ body_of text.now }
 {
     let n = text[0] as usize;
-    if n < 1 || n > 239 || n >= text.len() {
+    if n < 1 || n > 239 || !is_text(text) {
         return None;
     }
-    let body = &text[1..n + 1];
-    (text == body_text(body).as_slice()).then_some(body)
+    Some(&text[1..n + 1])
 }
 
 impl Level {

@@ -3,7 +3,7 @@ ghost use Rattle.std.specs.Prelude.{◌≡◌, ◌+◌, ◌%◌, ◌<◌, ◌≤
 ghost use Rattle.std.specs.Option.{option_map};
 ghost use Rattle.apdu.specs.Apdu.{meaning};
 ghost use Rattle.cipher.specs.Blocks.{Bytes};
-ghost use Rattle.scp01.specs.Wrapping.{PutInFront, command_bytes, command_into, longest_body, enciphered, code_of, sealed_with, sent_at, chain_sent, wrappable, wrapped, wrapped_into, to_send, length_and_chain};
+ghost use Rattle.scp01.specs.Wrapping.{PutAt, PutInFront, field_bytes, le_bytes, command_bytes, command_into, longest_body, enciphered, code_of, sealed_with, sent_at, chain_sent, wrappable, wrapped, wrapped_into, length_and_chain};
 ghost use Rattle.scp01.specs.Understanding.{UnderstoodIn, Keyed};
 
 use crate::inside::body_text;
@@ -19,38 +19,48 @@ pub struct Wrapped {
     pub chain: [u8; 8],
 }
 
-// A command as it is sent, and the chaining value after it.
-#[derive(Drop)]
-struct Sent {
-    bytes: ArrayVec<u8, 261>,
-    chain: [u8; 8],
+// Writes bytes over the area from a place on, and returns the place behind them.
+fn put(area: &mut [u8], at: usize, bytes: &[u8]) -> usize
+    requires { at + length bytes.now ≤ length area.old }
+    ensures { PutAt area.old area.new at result bytes.now }
+{
+    let end = at + bytes.len();
+    area[at..end].copy_from_slice(bytes);
+    end
 }
 
-// Writes bytes to the front of the area, and returns their number.
-fn put_in_front(area: &mut [u8], bytes: &[u8]) -> usize
-    requires { length bytes.now ≤ length area.old }
-    ensures { PutInFront area.old area.new result bytes.now }
+// Writes Lc and the data field, where there is one, and returns the place behind them.
+fn put_field(area: &mut [u8], at: usize, field: &[u8]) -> usize
+    requires { (at + 1 + length field.now ≤ length area.old) × (length field.now < 256) }
+    ensures { PutAt area.old area.new at result (field_bytes field.now) }
 {
-    area[..bytes.len()].copy_from_slice(bytes);
-    bytes.len()
+    if field.is_empty() {
+        return at;
+    }
+    let behind = put(area, at, &[field.len() as u8]);
+    put(area, behind, field)
 }
 
-// The bytes of a command.
-fn command_bytes(command: Command) -> ArrayVec<u8, 261>
-    requires { length command.field.now < 256 }
-    ensures { result.items ≡ command_bytes (meaning command.entry) }
+// Writes Le, where there is one, and returns the place behind it.
+fn put_le(area: &mut [u8], at: usize, le: Option<u8>) -> usize
+    requires { at + 1 ≤ length area.old }
+    ensures { PutAt area.old area.new at result (le_bytes le) }
 {
-    let mut bytes = ArrayVec::new();
+    match le {
+        None => at,
+        Some(le) => put(area, at, &[le]),
+    }
+}
+
+// Writes a command's bytes to the front of the area, and returns their number.
+fn put_command(command: Command, area: &mut [u8]) -> usize
+    requires { (261 ≤ length area.old) × (length command.field.now < 256) }
+    ensures { PutInFront area.old area.new result (command_bytes (meaning command.entry)) }
+{
     let header = [command.class, command.instruction, command.p1, command.p2];
-    bytes.try_extend_from_slice(&header).unwrap();
-    if !command.field.is_empty() {
-        bytes.push(command.field.len() as u8);
-        bytes.try_extend_from_slice(command.field).unwrap();
-    }
-    if let Some(le) = command.le {
-        bytes.push(le);
-    }
-    bytes
+    let start = put(area, 0, &header);
+    let end = put_field(area, start, command.field);
+    put_le(area, end, command.le)
 }
 
 // The text of a body, enciphered from zeros; nothing for an empty body.
@@ -75,8 +85,7 @@ pub fn write_command(command: Command, area: &mut [u8]) -> Option<usize>
     if area.len() < 261 || command.field.len() > 255 {
         return None;
     }
-    let bytes = command_bytes(command);
-    Some(put_in_front(area, bytes.as_slice()))
+    Some(put_command(command, area))
 }
 
 // For the proof alone: what the types say of a session and a data field, known once a byte of each part is read.
@@ -110,38 +119,43 @@ impl Level {
 }
 
 impl Session {
-    // A command with its code, given what stands for its body.
-    fn sealed<C: Cipher>(&self, command: Command, shut: &[u8]) -> Sent
+    // Writes a command with its code to the front of the area, given what stands for its body.
+    fn seal<C: Cipher>(&self, command: Command, shut: &[u8], area: &mut [u8]) -> Wrapped
         requires body { length command.field.now ≤ 247 }
         requires shut { length shut.now ≤ 247 }
-        ensures { to_send result ≡ (command_bytes (sealed_with (meaning command.entry) shut.now (code_of C.algorithm self.now (meaning command.entry))), code_of C.algorithm self.now (meaning command.entry)) }
+        requires room { 261 ≤ length area.old }
+        ensures area { PutInFront area.old area.new result.length (command_bytes (sealed_with (meaning command.entry) shut.now (code_of C.algorithm self.now (meaning command.entry)))) }
+        ensures chain { result.chain ≡ code_of C.algorithm self.now (meaning command.entry) }
     {
         let chain = self.code_over::<C>(command);
         let mut field = ArrayVec::<u8, 255>::new();
         field.try_extend_from_slice(shut).unwrap();
         field.try_extend_from_slice(&chain).unwrap();
-        let bytes = command_bytes(Command {
+        let sealed = Command {
             class: 0x84,
             field: field.as_slice(),
             ..command
-        });
-        Sent { bytes, chain }
+        };
+        let length = put_command(sealed, area);
+        Wrapped { length, chain }
     }
 
-    // What the session's level sends for a command.
-    fn sent<C: Cipher>(&self, command: Command) -> Sent
-        requires { length command.field.now ≤ longest_body self.now.level }
-        ensures { to_send result ≡ (command_bytes (sent_at C.algorithm self.now (meaning command.entry) self.now.level), chain_sent C.algorithm self.now (meaning command.entry) self.now.level) }
+    // Writes what the session's level sends for a command to the front of the area.
+    fn send<C: Cipher>(&self, command: Command, area: &mut [u8]) -> Wrapped
+        requires body { length command.field.now ≤ longest_body self.now.level }
+        requires room { 261 ≤ length area.old }
+        ensures area { PutInFront area.old area.new result.length (command_bytes (sent_at C.algorithm self.now (meaning command.entry) self.now.level)) }
+        ensures chain { result.chain ≡ chain_sent C.algorithm self.now (meaning command.entry) self.now.level }
     {
         match self.level {
-            Level::Plain => Sent {
-                bytes: command_bytes(command),
+            Level::Plain => Wrapped {
+                length: put_command(command, area),
                 chain: self.chain,
             },
-            Level::Mac => self.sealed::<C>(command, command.field),
+            Level::Mac => self.seal::<C>(command, command.field, area),
             Level::MacEncrypted => {
                 let shut = enciphered::<C>(&self.keys.enc, command.field);
-                self.sealed::<C>(command, shut.as_slice())
+                self.seal::<C>(command, shut.as_slice(), area)
             }
         }
     }
@@ -157,8 +171,6 @@ impl Session {
         if area.len() < 261 || !self.level.can_wrap(command) {
             return None;
         }
-        let Sent { bytes, chain } = self.sent::<C>(command);
-        let length = put_in_front(area, bytes.as_slice());
-        Some(Wrapped { length, chain })
+        Some(self.send::<C>(command, area))
     }
 }

@@ -1,6 +1,6 @@
 // The printed rows.
-ghost use Rattle.std.specs.Prelude.{Some};
-ghost use Rattle.script.specs.Rows.{row_bytes};
+ghost use Rattle.std.specs.Prelude.{◌≡◌, ℕ, ◌<◌, Some};
+ghost use Rattle.script.specs.Rows.{hex_digit, row_bytes};
 
 use answers::Refusal;
 use std::fmt;
@@ -16,6 +16,14 @@ pub enum Row {
     ImageRefused(Refusal),
 }
 
+fn hex_digit(value: u8) -> char
+    requires { value < 16 }
+    ensures digit { result ≡ hex_digit value }
+    ensures ascii { result < 128 }
+{
+    char::from(b"0123456789ABCDEF"[value as usize])
+}
+
 impl fmt::Display for Row {
     ghost output = { λ row. Some (row_bytes row) };
 
@@ -24,7 +32,12 @@ impl fmt::Display for Row {
             Row::Reset(number) => write!(f, "{number} ----\n"),
             Row::Answered(number, status) => {
                 let [sw1, sw2] = *status;
-                write!(f, "{number} {sw1:02X}{sw2:02X}\n")
+                // Four characters cost less than two padded holes.
+                let a = hex_digit(sw1 / 16);
+                let b = hex_digit(sw1 % 16);
+                let c = hex_digit(sw2 / 16);
+                let d = hex_digit(sw2 % 16);
+                write!(f, "{number} {a}{b}{c}{d}\n")
             }
             Row::ImageRefused(refusal) => {
                 let number = u8::from(*refusal);

@@ -1,21 +1,23 @@
 // A session told in words.
 use crate::words::{instruction_name, parted, status_meaning};
-use hex::ToHex;
+use hex_text::Hex;
 use runs::conduct::{Conversation, Trouble};
 use runs::turns::{Exchange, Outcome, Served};
 use std::io;
 
 fn print_exchange(rt: &HostRuntime, exchange: &Exchange) -> io::Result<()> {
-    let command = exchange.command.encode_hex_upper(rt.alloc())?;
+    let command = Hex {
+        bytes: &exchange.command,
+    };
     let name = instruction_name(&exchange.command);
     println!(rt; "  -> {command} ({name})")?;
     let (data, status) = parted(&exchange.answer);
     let meaning = status_meaning(status);
-    let status = status.encode_hex_upper(rt.alloc())?;
+    let status = Hex { bytes: status };
     if data.is_empty() {
         return println!(rt; "  <- {status}: {meaning}");
     }
-    let data = data.encode_hex_upper(rt.alloc())?;
+    let data = Hex { bytes: data };
     println!(rt; "  <- {data} {status}: {meaning}")
 }
 
@@ -27,7 +29,9 @@ fn print_outcome(rt: &HostRuntime, outcome: &Outcome) -> io::Result<()> {
 }
 
 fn print_served(rt: &HostRuntime, served: &Served) -> io::Result<()> {
-    let bare = served.bare.encode_hex_upper(rt.alloc())?;
+    let bare = Hex {
+        bytes: &served.bare,
+    };
     println!(rt; "The terminal wraps {bare}:")?;
     print_exchange(rt, &served.sent)
 }
@@ -63,7 +67,7 @@ pub fn print_conversation(
 }
 
 pub fn print_image(rt: &HostRuntime, image: &[u8]) -> io::Result<()> {
-    let image = image.encode_hex_upper(rt.alloc())?;
+    let image = Hex { bytes: image };
     println!(rt; "The card is stored: {image}")
 }
 

@@ -1,13 +1,21 @@
 // Vector files run under ciphers, and what is printed of them.
-ghost use Rattle.std.specs.Prelude.{◌≡◌, false, IfOk};
+ghost use Rattle.std.specs.Prelude.{◌≡◌, false, true, Ok, drop, IfOk, IfErr, MatchResult, string_bytes};
+ghost use Rattle.std.specs.List.{All, Contains};
+ghost use Rattle.std.specs.Vec.Iter.{into_iter_items};
+ghost use Rattle.vector_files.specs.Rows.{Answered};
+ghost use Rattle.vector_files.specs.Runs.{Ran, Failed};
 
 use crate::rows::judged;
 use anyhow::anyhow;
 use cipher::Cipher;
-use std::{env, fs, io};
+use std::alloc::Global;
+use std::env::Args;
+use std::io;
 
 // Every row of a text under a cipher; names each line that is no row or does not agree. Answers whether all agreed.
-fn run_rows<C: Cipher>(rt: &HostRuntime, name: &str, text: &str) -> io::Result<bool> {
+fn run_rows<C: Cipher>(rt: &HostRuntime, name: &str, text: &str) -> io::Result<bool>
+    ensures { IfOk result (Answered C.algorithm.enc C.algorithm.dec text.now) }
+{
     let mut count = 0u32;
     let mut agreed = 0u32;
     for (i, line) in text.lines().enumerate() {
@@ -35,9 +43,11 @@ fn unheld(rt: &HostRuntime, name: &str, why: &str) -> io::Result<bool>
     Ok(false)
 }
 
-// Runs a file under a cipher, and prints how many rows it has and how many agreed. Answers whether all did.
-pub fn run<C: Cipher>(rt: &HostRuntime, name: &str) -> io::Result<bool> {
-    match fs::read_to_string(rt, name) {
+// Runs what was read of a file under a cipher, and prints how many rows it has and how many agreed. Answers whether all did.
+pub fn run<C: Cipher>(rt: &HostRuntime, name: &str, read: io::Result<String>) -> io::Result<bool>
+    ensures { IfOk result (λ all. MatchResult read (λ text. Answered C.algorithm.enc C.algorithm.dec (string_bytes text) all) (λ _. all ≡ false)) }
+{
+    match read {
         Ok(text) => run_rows::<C>(rt, name, text.as_str()),
         Err(_) => unheld(rt, name, "cannot be read"),
     }
@@ -50,15 +60,19 @@ pub fn no_cipher(rt: &HostRuntime, name: &str) -> io::Result<bool>
     unheld(rt, name, "no cipher has vectors of this name")
 }
 
-// Runs the files that the arguments name, each by `run_named`, which answers whether every row of it agreed.
+// Runs the files that the arguments name behind the program's name, each by `run_named`, which answers whether every row of it
+// agreed.
 pub fn run_all<F: Fn(&HostRuntime, &str) -> io::Result<bool>>(
     rt: &HostRuntime,
+    arguments: Args<Global>,
     run_named: F,
 ) -> anyhow::Result<()>
     requires { F.IsAlwaysCallable run_named }
+    ensures all { IfOk result (λ _. All (λ name. Ran F.Fn run_named (string_bytes name) (Ok true)) (drop 1 (into_iter_items arguments))) }
+    ensures some { IfErr result (λ _. (name : _) × Contains (drop 1 (into_iter_items arguments)) name × Failed F.Fn run_named (string_bytes name)) }
 {
     let mut all = true;
-    for name in env::args(rt)?.skip(1) {
+    for name in arguments.skip(1) {
         all &= run_named(rt, name.as_str())?;
     }
     if all {

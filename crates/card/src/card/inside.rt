@@ -52,8 +52,7 @@ impl<C: Cipher, S: Source, M: OwnRule> Card<C, S, M> {
         };
         let done = inside.obey::<C>(&mut self.contents, &session.keys.kek, request);
         self.channel = kept_open(self.contents.state(), Session { chain, ..session });
-        let receipt = done?;
-        Ok(Answer::new(receipt.as_slice(), StatusWord::Success))
+        done.map(Answer::Received)
     }
 
     // A command inside the channel. Without a channel it is refused, and a waiting challenge stays; what cannot be read closes

@@ -33,13 +33,12 @@ impl<C: Cipher, S: Source, M: OwnRule> Card<C, S, M> {
         let challenges = ChallengePair { host, card };
         let keys = challenges.session_keys::<C>(&set.keys);
         self.channel = Channel::Waiting(Handshake { keys, challenges });
-        let update = Update {
+        Ok(Answer::Updated(Update {
             diversification: self.contents.diversification(),
             version: set.version,
             challenge: card,
             cryptogram: challenges.card_cryptogram::<C>(&keys),
-        };
-        Ok(update.answer())
+        }))
     }
 
     // `handshake` is what waited.
@@ -82,6 +81,6 @@ impl<C: Cipher, S: Source, M: OwnRule> Card<C, S, M> {
             return Err(StatusWord::SecurityNotSatisfied);
         }
         self.channel = Channel::Open(session);
-        Ok(Answer::only(StatusWord::Success))
+        Ok(Answer::Status(StatusWord::Success))
     }
 }

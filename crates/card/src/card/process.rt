@@ -57,11 +57,13 @@ impl<C: Cipher, S: Source, M: OwnRule> Card<C, S, M> {
         ensures work { work.new ≡ replicate 256 0 }
     {
         let guard = Wipe { bytes: work };
-        let answer = match Command::read(command) {
-            None => Err(StatusWord::WrongLength),
-            Some(command) => self.perform(command, guard.bytes),
-        };
-        answer.unwrap_or_else(Answer::only)
+        match Command::read(command) {
+            None => Answer::Status(StatusWord::WrongLength),
+            Some(command) => match self.perform(command, guard.bytes) {
+                Ok(answer) => answer,
+                Err(status) => Answer::Status(status),
+            },
+        }
     }
 
     // Hands in a command. The answer's data and status word stand at the front of the answer area, whose other bytes stay,

@@ -1,4 +1,6 @@
 // The parts of what a card holds, and the kinds of an image's records.
+ghost use Rattle.std.specs.Prelude.{◌≤◌};
+
 use crate::life::CardState;
 use crate::records::{KeySets, Registry};
 
@@ -11,11 +13,13 @@ pub enum Kind {
     End,
 }
 
-// What has been read of an image, or what a card holds: sound only where `Contents` says so.
+// What has been read of an image, or what a card holds: sound only where `Contents` says so. No table counts more records
+// than it has places.
 #[derive(Clone, Copy)]
 pub struct Draft {
     pub state: CardState,
     pub diversification: [u8; 10],
     pub sets: KeySets,
     pub registry: Registry,
+    ghost counted: { (sets.count ≤ 4) × (registry.count ≤ 12) },
 }

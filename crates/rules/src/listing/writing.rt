@@ -6,16 +6,17 @@ ghost use Rattle.rules.specs.GetStatus.{record_of, shown, status_records};
 ghost use Rattle.rules.specs.Listings.{listing_bytes};
 
 use crate::listing::Listing;
-use arrayvec::ArrayVec;
 use contents::life::EntryKind;
 use contents::records::Entry;
 
 impl Listing {
     fn empty() -> Listing
-        ensures { listing_bytes result ≡ [] }
+        ensures bytes { listing_bytes result ≡ [] }
+        ensures len { result.len ≡ 0 }
     {
         Listing {
-            bytes: ArrayVec::new(),
+            bytes: [0; 228],
+            len: 0,
         }
     }
 
@@ -24,27 +25,30 @@ impl Listing {
         ensures bytes { result.now ≡ listing_bytes self.now }
         ensures short { length result.now ≤ 228 }
     {
-        self.bytes.as_slice()
+        &self.bytes[0..self.len]
     }
 
     pub(crate) fn is_empty(&self) -> bool
         ensures { result ≡ (length (listing_bytes self.now) == 0) }
     {
-        self.bytes.is_empty()
+        self.len == 0
     }
 
     fn extend(&mut self, more: &[u8])
-        requires { length (listing_bytes self.old) + length more.now ≤ 228 }
-        ensures { listing_bytes self.new ≡ listing_bytes self.old ++ more.now }
+        requires { self.old.len + length more.now ≤ 228 }
+        ensures bytes { listing_bytes self.new ≡ listing_bytes self.old ++ more.now }
+        ensures len { self.new.len ≡ self.old.len + length more.now }
     {
-        self.bytes.try_extend_from_slice(more).unwrap();
+        let end = self.len + more.len();
+        self.bytes[self.len..end].copy_from_slice(more);
+        self.len = end;
     }
 
     // The length of the name, the name, the state and the privileges.
     fn record(&mut self, entry: &Entry)
-        requires { (length (listing_bytes self.old) + 19 ≤ 228) × (length (name_of entry.now) ≤ 16) }
+        requires { (self.old.len + 19 ≤ 228) × (length (name_of entry.now) ≤ 16) }
         ensures bytes { listing_bytes self.new ≡ listing_bytes self.old ++ record_of entry.now }
-        ensures len { length (listing_bytes self.new) ≤ length (listing_bytes self.old) + 19 }
+        ensures len { self.new.len ≤ self.old.len + 19 }
     {
         let name = entry.aid.name();
         self.extend(&[name.len() as u8]);
@@ -54,9 +58,9 @@ impl Listing {
 
     // The record of an entry of this kind; of another, nothing.
     fn show(&mut self, entry: &Entry, kind: EntryKind)
-        requires { (length (listing_bytes self.old) + 19 ≤ 228) × (length (name_of entry.now) ≤ 16) }
+        requires { (self.old.len + 19 ≤ 228) × (length (name_of entry.now) ≤ 16) }
         ensures bytes { listing_bytes self.new ≡ listing_bytes self.old ++ shown kind entry.now }
-        ensures len { length (listing_bytes self.new) ≤ length (listing_bytes self.old) + 19 }
+        ensures len { self.new.len ≤ self.old.len + 19 }
     {
         if entry.kind == kind {
             self.record(entry);

@@ -1,3 +1,4 @@
+use Rattle.std.proofs.Common.{◌≤◌}
 use Rattle.contents.specs.Contents.{held}
 use Rattle.contents.specs.Records.{listed}
 use Rattle.contents.proofs.Altered.{sound_parts, entries_replaced}
@@ -11,4 +12,5 @@ invariant_of-self c =
     let after = listed c.add_application.new.self in
     let change = c.add_application.ensures in
     let sure = application_sound_after h.entries after c.args.name.now c.args.state c.args.privileges c.add_application.result (sound_parts h contents.ok).2 change.taken change.list in
-    record { ok = entries_replaced h after contents.ok sure }
+    let few : c.add_application.new.self.count ≤ 12 = change.counted contents.counted.1 in
+    (((contents.counted.0, few), tt), ((contents.counted.0, few), (entries_replaced h after contents.ok sure, tt)))

@@ -1,4 +1,4 @@
-use Rattle.std.proofs.Common.{rules}
+use Rattle.std.proofs.Common.{◌≤◌, arith, rules}
 use Rattle.contents.specs.Contents.{held}
 use Rattle.contents.specs.Records.{listed}
 use Rattle.contents.proofs.Altered.{sound_parts, sets_replaced}
@@ -13,4 +13,5 @@ invariant_of-self c =
     let change = c.replace.ensures in
     let keys : Keys c.args.set = search rules in
     let sure = replaced_sound_after h.sets after c.args.version c.args.set c.replace.result keys (sound_parts h contents.ok).1 change.taken change.list in
-    record { ok = sets_replaced h after contents.ok sure }
+    let few : c.replace.new.self.count ≤ 4 = omega (arith, change.count, contents.counted.0) in
+    (((few, contents.counted.1), tt), ((few, contents.counted.1), (sets_replaced h after contents.ok sure, tt)))
